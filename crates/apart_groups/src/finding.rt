@@ -1,17 +1,17 @@
 //! Finding groups: programs that touch one another are in one.
 
-ghost use Rattle.std.specs.Prelude.{◌≡◌, ◌<◌, ◌++◌, ℕ, [], ◌∷◌, map, length, IfOk, OnOk};
+ghost use Rattle.std.specs.Prelude.{◌≡◌, ◌<◌, ◌++◌, ℕ, [], ◌∷◌, IfOk, OnOk};
 ghost use Rattle.fs_semantics.specs.Orders.{Told};
-ghost use Rattle.fs_lang.specs.Meaning.{program_of};
 ghost use Rattle.orders.specs.Relation.{comes};
+ghost use Rattle.plans.specs.Plans.{meant_by};
 ghost use Rattle.settled_groups.specs.Groups.{CommuteWhereSure};
 ghost use Rattle.apart_groups.specs.Groups.{AreGroups, MeetIn, other_pair, other_pairs};
 
 use crate::labels::{by_labels, labels_of, sort_labels};
 use crate::testing::are_groups;
 use commute_prune::{are_proper, sure_pairs, touching_pairs};
-use fs_lang::Program;
 use orders::Order;
+use plans::Plan;
 use rh_base::{NoMemory, Seq};
 use std::alloc::Global;
 
@@ -39,19 +39,13 @@ fn proposed(
 }
 
 /// Groups by these pairs, if the order allows them; else all in one.
-fn tested(
-    alloc: Global,
-    programs: &[Program],
-    order: &Order,
-    pairs: &[(u32, u32)],
-) -> Result<Seq<Seq<u32>>, NoMemory>
-    requires count { length programs.now ≡ order.now.count }
-    requires pairs { MeetIn (map program_of programs.now) (comes order.now) pairs.now }
-    ensures { IfOk result (AreGroups (map program_of programs.now) (comes order.now)) }
+fn tested(alloc: Global, plan: &Plan<'_>, pairs: &[(u32, u32)]) -> Result<Seq<Seq<u32>>, NoMemory>
+    requires { MeetIn (meant_by plan.now) (comes plan.now.order.now) pairs.now }
+    ensures { IfOk result (AreGroups (meant_by plan.now) (comes plan.now.order.now)) }
 {
-    let first = order.first_extension()?;
-    let groups = proposed(alloc, order, pairs, first.as_slice())?;
-    if are_groups(alloc, programs, order, pairs, groups.as_slice())? {
+    let first = plan.order.first_extension()?;
+    let groups = proposed(alloc, plan.order, pairs, first.as_slice())?;
+    if are_groups(alloc, plan, pairs, groups.as_slice())? {
         return Ok(groups);
     }
     one_group(alloc, first)
@@ -59,18 +53,13 @@ fn tested(
 
 /// The programs in groups, which one after the other make an allowed order. Those of different groups commute where the folders
 /// stand that are sure before them.
-pub fn groups_of(
-    alloc: Global,
-    programs: &[Program],
-    order: &Order,
-) -> Result<Seq<Seq<u32>>, NoMemory>
-    requires { length programs.now ≡ order.now.count }
-    ensures { IfOk result (AreGroups (map program_of programs.now) (comes order.now)) }
+pub fn groups_of(alloc: Global, plan: &Plan<'_>) -> Result<Seq<Seq<u32>>, NoMemory>
+    ensures { IfOk result (AreGroups (meant_by plan.now) (comes plan.now.order.now)) }
 {
-    are_proper(programs);
+    are_proper(plan.programs);
     sure_pairs();
-    let pairs = touching_pairs(alloc, programs, order)?;
-    let groups = tested(alloc, programs, order, pairs.as_slice())?;
+    let pairs = touching_pairs(alloc, plan.programs, plan.order)?;
+    let groups = tested(alloc, plan, pairs.as_slice())?;
     Ok(groups)
 }
 
@@ -100,20 +89,14 @@ fn other_pairs(
 }
 
 /// The same where a program commutes with each of lesser number: that it touches them doesn't count.
-pub fn groups_beside(
-    alloc: Global,
-    programs: &[Program],
-    order: &Order,
-    last: u32,
-) -> Result<Seq<Seq<u32>>, NoMemory>
-    requires count { length programs.now ≡ order.now.count }
-    requires commutes { (k : ℕ) → k < last → CommuteWhereSure (map program_of programs.now) (Told (comes order.now)) k last }
-    ensures { IfOk result (AreGroups (map program_of programs.now) (comes order.now)) }
+pub fn groups_beside(alloc: Global, plan: &Plan<'_>, last: u32) -> Result<Seq<Seq<u32>>, NoMemory>
+    requires { (k : ℕ) → k < last → CommuteWhereSure (meant_by plan.now) (Told (comes plan.now.order.now)) k last }
+    ensures { IfOk result (AreGroups (meant_by plan.now) (comes plan.now.order.now)) }
 {
-    are_proper(programs);
+    are_proper(plan.programs);
     sure_pairs();
-    let touching = touching_pairs(alloc, programs, order)?;
+    let touching = touching_pairs(alloc, plan.programs, plan.order)?;
     let others = other_pairs(alloc, touching.as_slice(), last)?;
-    let groups = tested(alloc, programs, order, others.as_slice())?;
+    let groups = tested(alloc, plan, others.as_slice())?;
     Ok(groups)
 }

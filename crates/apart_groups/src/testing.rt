@@ -1,15 +1,14 @@
 //! Whether groups are in an allowed order, and no program of one touches one of another.
 
-ghost use Rattle.std.specs.Prelude.{◌≡◌, map, length, IfOk};
+ghost use Rattle.std.specs.Prelude.{◌≡◌, IfOk};
 ghost use Rattle.std.specs.Bool.{OnTrue};
 ghost use Rattle.std.specs.List.{AllByRecursion};
-ghost use Rattle.fs_lang.specs.Meaning.{program_of};
 ghost use Rattle.orders.specs.Relation.{comes};
+ghost use Rattle.plans.specs.Plans.{meant_by};
 ghost use Rattle.settled_groups.specs.Groups.{in_turn};
 ghost use Rattle.apart_groups.specs.Groups.{AreGroups, group_of, AreNumbered, IsWithin, MeetIn};
 
-use fs_lang::Program;
-use orders::Order;
+use plans::Plan;
 use rh_base::{NoMemory, Seq};
 use std::alloc::Global;
 
@@ -91,21 +90,19 @@ fn are_within(numbers: &[usize], pairs: &[(u32, u32)]) -> bool
 /// Whether these are groups of an allowed order, where programs commute that are no pair of these.
 pub(crate) fn are_groups(
     alloc: Global,
-    programs: &[Program],
-    order: &Order,
+    plan: &Plan<'_>,
     pairs: &[(u32, u32)],
     groups: &[Seq<u32>],
 ) -> Result<bool, NoMemory>
-    requires count { length programs.now ≡ order.now.count }
-    requires pairs { MeetIn (map program_of programs.now) (comes order.now) pairs.now }
-    ensures { IfOk result (λ found. OnTrue found (AreGroups (map program_of programs.now) (comes order.now) groups.now)) }
+    requires { MeetIn (meant_by plan.now) (comes plan.now.order.now) pairs.now }
+    ensures { IfOk result (λ found. OnTrue found (AreGroups (meant_by plan.now) (comes plan.now.order.now) groups.now)) }
 {
     let whole = in_turn(alloc, groups)?;
-    let mut marks = vec![in alloc; false; order.count() as usize]?;
-    if !order.is_extension(&whole, marks.as_mut_slice()) {
+    let mut marks = vec![in alloc; false; plan.order.count() as usize]?;
+    if !plan.order.is_extension(&whole, marks.as_mut_slice()) {
         return Ok(false);
     }
-    let numbers = numbers_of(alloc, order.count(), groups)?;
+    let numbers = numbers_of(alloc, plan.order.count(), groups)?;
     if !are_numbered(&numbers, groups) {
         return Ok(false);
     }

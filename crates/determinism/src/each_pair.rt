@@ -12,6 +12,7 @@ use answering::refuted;
 use commute_prune::unordered;
 use fs_lang::Program;
 use kept_graph::program_at;
+use plans::Plan;
 use proof_check::Verified;
 use rh_base::{NoMemory, Seq};
 use std::alloc::Global;
@@ -52,7 +53,11 @@ fn commute(
 {
     let two = two_programs(alloc, programs, a, b)?;
     let order = unordered(alloc, 2)?;
-    let (cnf, firsts) = question(alloc, two.as_slice(), &order)?;
+    let pair = Plan {
+        programs: two.as_slice(),
+        order: &order,
+    };
+    let (cnf, firsts) = question(alloc, &pair)?;
     refuted(alloc, cnf, firsts.as_slice(), budget)
 }
 

@@ -8,11 +8,12 @@
 //! Each search has the whole budget; what is told to be spent is the last one, over a formula that states the question, and a
 //! pair that isn't refuted is only left open.
 
-ghost use Rattle.std.specs.Prelude.{◌≡◌, ◌≢◌, ◌+◌, ◌≤◌, [], length, map, IfSome, IfOk, IfErr};
+ghost use Rattle.std.specs.Prelude.{◌≡◌, ◌≢◌, ◌+◌, ◌≤◌, [], map, IfSome, IfOk, IfErr};
 ghost use Rattle.fs_semantics.specs.Orders.{Told, IsDeterministic, IsExchange, IsCounterexample};
 ghost use Rattle.rh_base.specs.Refused.{IfRefused};
 ghost use Rattle.fs_lang.specs.Meaning.{program_of};
 ghost use Rattle.orders.specs.Relation.{comes, Comes};
+ghost use Rattle.plans.specs.Plans.{meant_by};
 ghost use Rattle.kept_graph.specs.Kept.{IsKept};
 ghost use Rattle.size_limits.specs.Limits.{HasFewPaths, IsLight, IsTooLarge};
 ghost use Rattle.determinism.specs.Questions.{IsKeptDeterministic};
@@ -25,10 +26,11 @@ use crate::whole::{ask_whole, two_orders};
 use answering::Answer;
 use commute_prune::pruning;
 use finite_search::determinism_is_decided;
-use fs_lang::{Program, Tree};
+use fs_lang::Tree;
 use kept_graph::{Completed, Kept, keep, kept_graphs, refute};
 use order_encode::Witness;
 use orders::Order;
+use plans::Plan;
 use rh_base::{Fault, NoMemory, Seq};
 use size_limits::check_size;
 use std::alloc::Global;
@@ -46,23 +48,16 @@ fn pruned_count(order: &Order, kept: &Kept) -> u32
 }
 
 /// Asks about the whole graph.
-fn judge_whole(
-    alloc: Global,
-    programs: &[Program],
-    order: &Order,
-    kept: &Kept,
-    budget: u64,
-) -> Result<First, NoMemory>
-    requires count { length programs.now ≡ order.now.count }
+fn judge_whole(alloc: Global, plan: &Plan<'_>, kept: &Kept, budget: u64) -> Result<First, NoMemory>
     requires budget { 1 ≤ budget }
-    requires kept { IsKept (map program_of programs.now) order.now kept.now }
+    requires kept { IsKept (meant_by plan.now) plan.now.order.now kept.now }
     requires some { kept.now.pruned.kept ≢ [] }
-    requires differ { IsKeptDeterministic (map program_of programs.now) (Told (comes order.now)) kept.now.pruned.kept → ⊥ }
-    ensures { IfOk result (IsJudged (map program_of programs.now) order.now budget) }
+    requires differ { IsKeptDeterministic (meant_by plan.now) (Told (comes plan.now.order.now)) kept.now.pruned.kept → ⊥ }
+    ensures { IfOk result (IsJudged (meant_by plan.now) plan.now.order.now budget) }
 {
     pruning();
-    let pruned = pruned_count(order, kept);
-    let answer = ask_whole(alloc, programs, order, kept, budget)?;
+    let pruned = pruned_count(plan.order, kept);
+    let answer = ask_whole(alloc, plan, kept, budget)?;
     match answer {
         Answer::Refuted(verified) => Ok(First::Sure {
             pruned,
@@ -76,21 +71,19 @@ fn judge_whole(
 /// Looks at pairs of all programs, and tries trees: what comes of that, if these tell.
 fn judge_looked(
     alloc: Global,
-    programs: &[Program],
-    order: &Order,
+    plan: &Plan<'_>,
     kept: &Kept,
     budget: u64,
 ) -> Result<Option<First>, NoMemory>
-    requires count { length programs.now ≡ order.now.count }
     requires budget { 1 ≤ budget }
-    requires kept { IsKept (map program_of programs.now) order.now kept.now }
+    requires kept { IsKept (meant_by plan.now) plan.now.order.now kept.now }
     requires some { kept.now.pruned.kept ≢ [] }
-    ensures { IfOk result (λ found. IfSome found (IsJudged (map program_of programs.now) order.now budget)) }
+    ensures { IfOk result (λ found. IfSome found (IsJudged (meant_by plan.now) plan.now.order.now budget)) }
 {
     pruning();
     determinism_is_decided();
-    let pruned = pruned_count(order, kept);
-    let settled = settle(alloc, programs, order, budget)?;
+    let pruned = pruned_count(plan.order, kept);
+    let settled = settle(alloc, plan, budget)?;
     match settled {
         Settled::Alike(verified) => Ok(Some(First::Sure {
             pruned,
@@ -105,80 +98,68 @@ fn judge_looked(
 }
 
 /// Asks about the whole graph, where what is kept doesn't tell. Of few kept programs no pair was looked at before.
-fn judge_all(
-    alloc: Global,
-    programs: &[Program],
-    order: &Order,
-    kept: &Kept,
-    budget: u64,
-) -> Result<First, NoMemory>
-    requires count { length programs.now ≡ order.now.count }
+fn judge_all(alloc: Global, plan: &Plan<'_>, kept: &Kept, budget: u64) -> Result<First, NoMemory>
     requires budget { 1 ≤ budget }
-    requires kept { IsKept (map program_of programs.now) order.now kept.now }
+    requires kept { IsKept (meant_by plan.now) plan.now.order.now kept.now }
     requires some { kept.now.pruned.kept ≢ [] }
-    requires differ { IsKeptDeterministic (map program_of programs.now) (Told (comes order.now)) kept.now.pruned.kept → ⊥ }
-    ensures { IfOk result (IsJudged (map program_of programs.now) order.now budget) }
+    requires differ { IsKeptDeterministic (meant_by plan.now) (Told (comes plan.now.order.now)) kept.now.pruned.kept → ⊥ }
+    ensures { IfOk result (IsJudged (meant_by plan.now) plan.now.order.now budget) }
 {
     if kept.programs.as_slice().len() > FEW {
-        return judge_whole(alloc, programs, order, kept, budget);
+        return judge_whole(alloc, plan, kept, budget);
     }
-    match judge_looked(alloc, programs, order, kept, budget)? {
+    match judge_looked(alloc, plan, kept, budget)? {
         Some(told) => Ok(told),
-        None => judge_whole(alloc, programs, order, kept, budget),
+        None => judge_whole(alloc, plan, kept, budget),
     }
 }
 
 /// Tries two orders of the kept programs on the whole graph, and asks about that where they end alike there.
 fn judge_found(
     alloc: Global,
-    programs: &[Program],
-    order: &Order,
+    plan: &Plan<'_>,
     kept: &Kept,
     budget: u64,
     tree: Tree,
     left: &[u32],
     right: &[u32],
 ) -> Result<First, NoMemory>
-    requires count { length programs.now ≡ order.now.count }
     requires budget { 1 ≤ budget }
-    requires kept { IsKept (map program_of programs.now) order.now kept.now }
+    requires kept { IsKept (meant_by plan.now) plan.now.order.now kept.now }
     requires some { kept.now.pruned.kept ≢ [] }
     requires counterexample { IsCounterexample (map program_of kept.now.programs) (Comes kept.now.order) tree left.now right.now }
     requires exchange { IsExchange (Comes kept.now.order) left.now right.now }
-    ensures { IfOk result (IsJudged (map program_of programs.now) order.now budget) }
+    ensures { IfOk result (IsJudged (meant_by plan.now) plan.now.order.now budget) }
 {
     pruning();
     kept_graphs();
-    let completed = refute(alloc, programs, order, kept, &tree, left, right)?;
+    let completed = refute(alloc, plan, kept, &tree, left, right)?;
     match completed {
         Some(Completed { left, right }) => Ok(First::Differs {
-            pruned: pruned_count(order, kept),
+            pruned: pruned_count(plan.order, kept),
             witness: Witness::Orders { tree, left, right },
         }),
-        None => judge_all(alloc, programs, order, kept, budget),
+        None => judge_all(alloc, plan, kept, budget),
     }
 }
 
 /// Asks about what is kept, and about the whole graph where that doesn't tell.
-fn judge_kept(
-    alloc: Global,
-    programs: &[Program],
-    order: &Order,
-    kept: &Kept,
-    budget: u64,
-) -> Result<First, NoMemory>
-    requires count { length programs.now ≡ order.now.count }
+fn judge_kept(alloc: Global, plan: &Plan<'_>, kept: &Kept, budget: u64) -> Result<First, NoMemory>
     requires budget { 1 ≤ budget }
-    requires kept { IsKept (map program_of programs.now) order.now kept.now }
+    requires kept { IsKept (meant_by plan.now) plan.now.order.now kept.now }
     requires some { kept.now.pruned.kept ≢ [] }
     requires enough { IsDeterministic (map program_of kept.now.programs) (Told (comes kept.now.order))
-        → IsDeterministic (map program_of programs.now) (Told (comes order.now)) }
-    ensures { IfOk result (IsJudged (map program_of programs.now) order.now budget) }
+        → IsDeterministic (meant_by plan.now) (Told (comes plan.now.order.now)) }
+    ensures { IfOk result (IsJudged (meant_by plan.now) plan.now.order.now budget) }
 {
     pruning();
     kept_graphs();
-    let pruned = pruned_count(order, kept);
-    let answer = ask(alloc, kept.programs.as_slice(), &kept.order, budget)?;
+    let pruned = pruned_count(plan.order, kept);
+    let rest = Plan {
+        programs: kept.programs.as_slice(),
+        order: &kept.order,
+    };
+    let answer = ask(alloc, &rest, budget)?;
     match answer {
         Answer::Refuted(verified) => Ok(First::Sure {
             pruned,
@@ -188,8 +169,7 @@ fn judge_kept(
             let (tree, left, right) = two_orders(witness);
             judge_found(
                 alloc,
-                programs,
-                order,
+                plan,
                 kept,
                 budget,
                 tree,
@@ -202,73 +182,54 @@ fn judge_kept(
 }
 
 /// Looks at pairs, and tries trees; and asks about what is kept where these don't tell.
-fn judge_pairs(
-    alloc: Global,
-    programs: &[Program],
-    order: &Order,
-    kept: &Kept,
-    budget: u64,
-) -> Result<First, NoMemory>
-    requires count { length programs.now ≡ order.now.count }
+fn judge_pairs(alloc: Global, plan: &Plan<'_>, kept: &Kept, budget: u64) -> Result<First, NoMemory>
     requires budget { 1 ≤ budget }
-    requires kept { IsKept (map program_of programs.now) order.now kept.now }
+    requires kept { IsKept (meant_by plan.now) plan.now.order.now kept.now }
     requires some { kept.now.pruned.kept ≢ [] }
     requires enough { IsDeterministic (map program_of kept.now.programs) (Told (comes kept.now.order))
-        → IsDeterministic (map program_of programs.now) (Told (comes order.now)) }
-    ensures { IfOk result (IsJudged (map program_of programs.now) order.now budget) }
+        → IsDeterministic (meant_by plan.now) (Told (comes plan.now.order.now)) }
+    ensures { IfOk result (IsJudged (meant_by plan.now) plan.now.order.now budget) }
 {
     if kept.programs.as_slice().len() <= FEW {
-        return judge_kept(alloc, programs, order, kept, budget);
+        return judge_kept(alloc, plan, kept, budget);
     }
-    match judge_looked(alloc, programs, order, kept, budget)? {
+    match judge_looked(alloc, plan, kept, budget)? {
         Some(told) => Ok(told),
-        None => judge_kept(alloc, programs, order, kept, budget),
+        None => judge_kept(alloc, plan, kept, budget),
     }
 }
 
 /// Prunes, and judges what is kept, however large it is.
-pub fn judge_any(
-    alloc: Global,
-    programs: &[Program],
-    order: &Order,
-    budget: u64,
-) -> Result<First, NoMemory>
-    requires count { length programs.now ≡ order.now.count }
-    requires budget { 1 ≤ budget }
-    ensures { IfOk result (IsJudged (map program_of programs.now) order.now budget) }
+pub fn judge_any(alloc: Global, plan: &Plan<'_>, budget: u64) -> Result<First, NoMemory>
+    requires { 1 ≤ budget }
+    ensures { IfOk result (IsJudged (meant_by plan.now) plan.now.order.now budget) }
 {
     pruning();
-    let kept = keep(alloc, programs, order)?;
+    let kept = keep(alloc, plan)?;
     if kept.programs.is_empty() {
         return Ok(First::Sure {
-            pruned: pruned_count(order, &kept),
+            pruned: pruned_count(plan.order, &kept),
             sure: Sure::Pruned,
         });
     }
-    judge_pairs(alloc, programs, order, &kept, budget)
+    judge_pairs(alloc, plan, &kept, budget)
 }
 
 /// Whether the programs are deterministic. Where pruning keeps some, each two of all whose order may matter are tried from a few
 /// trees, and asked about by themselves. Where that doesn't tell, the kept programs are asked about, and then all; each time it is
 /// first asked whether those commute of which neither comes before the other. Each formula has the whole budget; a budget of
 /// `u64::MAX` stands for none.
-pub fn judge_order(
-    alloc: Global,
-    programs: &[Program],
-    order: &Order,
-    budget: u64,
-) -> Result<First, Fault>
-    requires count { length programs.now ≡ order.now.count }
-    requires budget { 1 ≤ budget }
+pub fn judge_order(alloc: Global, plan: &Plan<'_>, budget: u64) -> Result<First, Fault>
+    requires { 1 ≤ budget }
     // It is refused exactly where the graph is too large to be asked about.
-    ensures paths { IfOk result (λ first. HasFewPaths (map program_of programs.now)) }
-    ensures weight { IfOk result (λ first. IsLight (map program_of programs.now)) }
-    ensures refused { IfErr result (λ e. IfRefused e (IsTooLarge (map program_of programs.now))) }
-    ensures only { HasFewPaths (map program_of programs.now) → IsLight (map program_of programs.now)
+    ensures paths { IfOk result (λ first. HasFewPaths (meant_by plan.now)) }
+    ensures weight { IfOk result (λ first. IsLight (meant_by plan.now)) }
+    ensures refused { IfErr result (λ e. IfRefused e (IsTooLarge (meant_by plan.now))) }
+    ensures only { HasFewPaths (meant_by plan.now) → IsLight (meant_by plan.now)
         → IfErr result (λ e. IfRefused e (λ r. ⊥)) }
-    ensures judged { IfOk result (IsJudged (map program_of programs.now) order.now budget) }
+    ensures judged { IfOk result (IsJudged (meant_by plan.now) plan.now.order.now budget) }
 {
-    check_size(alloc, programs)?;
-    let first = judge_any(alloc, programs, order, budget)?;
+    check_size(alloc, plan.programs)?;
+    let first = judge_any(alloc, plan, budget)?;
     Ok(first)
 }

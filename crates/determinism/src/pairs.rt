@@ -1,57 +1,49 @@
 //! Whether all programs commute of which neither comes before the other. Then no order matters, so a refutation of this formula
 //! answers the first question as one of the formula of orders does, and stands in its place in a proof.
 
-ghost use Rattle.std.specs.Prelude.{◌≡◌, ◌≤◌, map, length, IfOk, IfNone, IfSome};
+ghost use Rattle.std.specs.Prelude.{◌≤◌, IfOk, IfNone, IfSome};
 ghost use Rattle.fs_semantics.specs.Orders.{Told};
-ghost use Rattle.fs_lang.specs.Meaning.{program_of};
 ghost use Rattle.orders.specs.Relation.{comes};
+ghost use Rattle.plans.specs.Plans.{meant_by};
 ghost use Rattle.determinism.specs.Answers.{IsNo, StatesCommuting, MayNotCommute};
 
 use answering::refuted;
 use cnf::{Cnf, Lit};
 use commute_prune::are_proper;
 use finite_domain::{domains, shadows};
-use fs_lang::Program;
 use fs_semantics::neighbours;
 use order_encode::ask_pairs;
-use orders::Order;
 use path_domain::domain;
+use plans::Plan;
 use proof_check::Verified;
 use rh_base::{NoMemory, Seq};
 use std::alloc::Global;
 
 /// A formula that has no model exactly where all programs commute of which neither comes before the other, and literals that a
 /// solver may try first.
-pub(crate) fn question(
-    alloc: Global,
-    programs: &[Program],
-    order: &Order,
-) -> Result<(Cnf, Seq<Lit>), NoMemory>
-    requires { length programs.now ≡ order.now.count }
-    ensures states { IfOk result (λ r. StatesCommuting (map program_of programs.now) (Told (comes order.now)) r.0) }
+pub(crate) fn question(alloc: Global, plan: &Plan<'_>) -> Result<(Cnf, Seq<Lit>), NoMemory>
+    ensures states { IfOk result (λ r. StatesCommuting (meant_by plan.now) (Told (comes plan.now.order.now)) r.0) }
 {
     domains();
     shadows();
-    let d = domain(alloc, programs)?;
-    ask_pairs(alloc, programs, order, &d)
+    let d = domain(alloc, plan.programs)?;
+    ask_pairs(alloc, plan.programs, plan.order, &d)
 }
 
 /// A refuted formula, where all programs commute of which neither comes before the other. There is none where some don't, or
 /// where the budget was spent.
 pub(crate) fn all_commute(
     alloc: Global,
-    programs: &[Program],
-    order: &Order,
+    plan: &Plan<'_>,
     budget: u64,
 ) -> Result<Option<Verified>, NoMemory>
-    requires count { length programs.now ≡ order.now.count }
-    requires budget { 1 ≤ budget }
-    ensures sure { IfOk result (λ found. IfSome found (λ v. IsNo (map program_of programs.now) (Told (comes order.now)) v.formula)) }
-    ensures none { IfOk result (λ found. IfNone found (MayNotCommute (map program_of programs.now) (Told (comes order.now)) budget)) }
+    requires { 1 ≤ budget }
+    ensures sure { IfOk result (λ found. IfSome found (λ v. IsNo (meant_by plan.now) (Told (comes plan.now.order.now)) v.formula)) }
+    ensures none { IfOk result (λ found. IfNone found (MayNotCommute (meant_by plan.now) (Told (comes plan.now.order.now)) budget)) }
 {
-    are_proper(programs);
+    are_proper(plan.programs);
     neighbours();
-    let (cnf, firsts) = question(alloc, programs, order)?;
+    let (cnf, firsts) = question(alloc, plan)?;
     let found = refuted(alloc, cnf, firsts.as_slice(), budget)?;
     Ok(found)
 }

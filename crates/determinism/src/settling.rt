@@ -1,8 +1,8 @@
 //! Answers without a question of order: each two programs whose order may matter are asked about by themselves; and where they
 //! don't commute they are put next to one another from a few trees.
 
-ghost use Rattle.std.specs.Prelude.{◌≡◌, ◌≤◌, map, length, IfOk, IfSome};
-ghost use Rattle.fs_lang.specs.Meaning.{program_of};
+ghost use Rattle.std.specs.Prelude.{◌≤◌, IfOk, IfSome};
+ghost use Rattle.plans.specs.Plans.{meant_by};
 ghost use Rattle.tried_trees.specs.Tried.{IsDifference};
 ghost use Rattle.determinism.specs.Settled.{IsByProof, IsLook, AreSettled, IsSettled};
 
@@ -10,7 +10,7 @@ use crate::each_pair::{commute_by_parts, pair_commutes};
 use crate::joining::joined;
 use commute_prune::{are_proper, doubtful_pairs, sure_pairs};
 use fs_lang::{Program, Tree};
-use orders::Order;
+use plans::Plan;
 use proof_check::Verified;
 use rh_base::{NoMemory, Seq};
 use std::alloc::Global;
@@ -45,16 +45,14 @@ enum Look {
 /// Tries pairs from these trees.
 fn try_from(
     alloc: Global,
-    programs: &[Program],
-    order: &Order,
+    plan: &Plan<'_>,
     pairs: &[(u32, u32)],
     trees: &[Tree],
 ) -> Result<Option<Difference>, NoMemory>
-    requires { length programs.now ≡ order.now.count }
-    ensures { IfOk result (λ found. IfSome found (IsDifference (map program_of programs.now) order.now)) }
+    ensures { IfOk result (λ found. IfSome found (IsDifference (meant_by plan.now) plan.now.order.now)) }
 {
     for tree in trees {
-        if let Some(found) = try_tree(alloc, programs, order, pairs, tree)? {
+        if let Some(found) = try_tree(alloc, plan, pairs, tree)? {
             return Ok(Some(found));
         }
     }
@@ -64,20 +62,18 @@ fn try_from(
 /// Asks about a pair, and tries it from these trees where it doesn't commute.
 fn look_at(
     alloc: Global,
-    programs: &[Program],
-    order: &Order,
+    plan: &Plan<'_>,
     pair: (u32, u32),
     trees: &[Tree],
     budget: u64,
 ) -> Result<Look, NoMemory>
-    requires count { length programs.now ≡ order.now.count }
-    requires budget { 1 ≤ budget }
-    ensures { IfOk result (IsLook (map program_of programs.now) order.now pair) }
+    requires { 1 ≤ budget }
+    ensures { IfOk result (IsLook (meant_by plan.now) plan.now.order.now pair) }
 {
-    if let Some(verified) = pair_commutes(alloc, programs, pair, budget)? {
+    if let Some(verified) = pair_commutes(alloc, plan.programs, pair, budget)? {
         return Ok(Look::Commute(verified));
     }
-    match try_from(alloc, programs, order, &[pair], trees)? {
+    match try_from(alloc, plan, &[pair], trees)? {
         Some(found) => Ok(Look::Differ(found)),
         None => Ok(Look::Open),
     }
@@ -87,20 +83,18 @@ fn look_at(
 /// that nothing makes.
 fn try_all(
     alloc: Global,
-    programs: &[Program],
-    order: &Order,
+    plan: &Plan<'_>,
     pairs: &[(u32, u32)],
     trees: &[Tree],
 ) -> Result<Settled, NoMemory>
-    requires { length programs.now ≡ order.now.count }
-    ensures { IfOk result (AreSettled (map program_of programs.now) order.now pairs.now) }
+    ensures { IfOk result (AreSettled (meant_by plan.now) plan.now.order.now pairs.now) }
 {
     let behind = trees.len().min(1);
     let others = &trees[behind..];
-    if let Some(found) = try_from(alloc, programs, order, pairs, others)? {
+    if let Some(found) = try_from(alloc, plan, pairs, others)? {
         return Ok(Settled::Differ(found));
     }
-    match try_from(alloc, programs, order, pairs, &trees[..behind])? {
+    match try_from(alloc, plan, pairs, &trees[..behind])? {
         Some(found) => Ok(Settled::Differ(found)),
         None => Ok(Settled::Open),
     }
@@ -120,25 +114,23 @@ fn settled_by(alloc: Global, parts: &[Verified]) -> Result<Settled, NoMemory>
 /// the others are joined; at the first one of which nothing is known, all are tried from these trees.
 fn look_at_all(
     alloc: Global,
-    programs: &[Program],
-    order: &Order,
+    plan: &Plan<'_>,
     pairs: &[(u32, u32)],
     trees: &[Tree],
     budget: u64,
 ) -> Result<Settled, NoMemory>
-    requires count { length programs.now ≡ order.now.count }
-    requires budget { 1 ≤ budget }
-    ensures { IfOk result (AreSettled (map program_of programs.now) order.now pairs.now) }
+    requires { 1 ≤ budget }
+    ensures { IfOk result (AreSettled (meant_by plan.now) plan.now.order.now pairs.now) }
 {
     let mut parts = Vec::new(alloc);
     for pair in pairs {
-        if commute_by_parts(alloc, programs, *pair)? {
+        if commute_by_parts(alloc, plan.programs, *pair)? {
             continue;
         }
-        match look_at(alloc, programs, order, *pair, trees, budget)? {
+        match look_at(alloc, plan, *pair, trees, budget)? {
             Look::Commute(verified) => parts.push(verified)?,
             Look::Differ(found) => return Ok(Settled::Differ(found)),
-            Look::Open => return try_all(alloc, programs, order, pairs, trees),
+            Look::Open => return try_all(alloc, plan, pairs, trees),
         }
     }
     let settled = settled_by(alloc, parts.as_slice())?;
@@ -148,17 +140,15 @@ fn look_at_all(
 /// Tries pairs from a few trees, if there aren't too many.
 fn try_few(
     alloc: Global,
-    programs: &[Program],
-    order: &Order,
+    plan: &Plan<'_>,
     pairs: &[(u32, u32)],
 ) -> Result<Option<Difference>, NoMemory>
-    requires { length programs.now ≡ order.now.count }
-    ensures { IfOk result (λ found. IfSome found (IsDifference (map program_of programs.now) order.now)) }
+    ensures { IfOk result (λ found. IfSome found (IsDifference (meant_by plan.now) plan.now.order.now)) }
 {
     if pairs.len() > MOST_TRIED {
         return Ok(None);
     }
-    try_pairs(alloc, programs, order, pairs)
+    try_pairs(alloc, plan, pairs)
 }
 
 /// The few trees from which such pairs weren't tried yet.
@@ -175,24 +165,18 @@ fn untried(
 }
 
 /// Looks at the pairs of programs whose order may matter, where the folders stand that are sure before them.
-pub(crate) fn settle(
-    alloc: Global,
-    programs: &[Program],
-    order: &Order,
-    budget: u64,
-) -> Result<Settled, NoMemory>
-    requires count { length programs.now ≡ order.now.count }
-    requires budget { 1 ≤ budget }
-    ensures { IfOk result (IsSettled (map program_of programs.now) order.now) }
+pub(crate) fn settle(alloc: Global, plan: &Plan<'_>, budget: u64) -> Result<Settled, NoMemory>
+    requires { 1 ≤ budget }
+    ensures { IfOk result (IsSettled (meant_by plan.now) plan.now.order.now) }
 {
-    are_proper(programs);
+    are_proper(plan.programs);
     sure_pairs();
-    let doubtful = doubtful_pairs(alloc, programs, order)?;
+    let doubtful = doubtful_pairs(alloc, plan.programs, plan.order)?;
     let pairs = doubtful.as_slice();
-    if let Some(found) = try_few(alloc, programs, order, pairs)? {
+    if let Some(found) = try_few(alloc, plan, pairs)? {
         return Ok(Settled::Differ(found));
     }
-    let trees = untried(alloc, programs, pairs)?;
+    let trees = untried(alloc, plan.programs, pairs)?;
     let rest = trees.as_slice();
-    look_at_all(alloc, programs, order, pairs, rest, budget)
+    look_at_all(alloc, plan, pairs, rest, budget)
 }

@@ -1,6 +1,6 @@
 //! Answering whether a graph ensures an entry.
 
-ghost use Rattle.std.specs.Prelude.{◌≡◌, ◌↔◌, ◌≤◌, ◌++◌, ◌∷◌, [], length, map, IfSome, IfOk, IfErr};
+ghost use Rattle.std.specs.Prelude.{◌↔◌, ◌≤◌, ◌++◌, ◌∷◌, [], map, IfSome, IfOk, IfErr};
 ghost use Rattle.rh_base.specs.Refused.{IfRefused};
 ghost use Rattle.fs_semantics.specs.Orders.{Told, IsDeterministic, Succeeds};
 ghost use Rattle.fs_lang.specs.Meaning.{program_of, programs_in};
@@ -8,6 +8,7 @@ ghost use Rattle.fs_interpreter.specs.Places.{CoversSteps};
 ghost use Rattle.finite_domain.specs.Layouts.{IsLayout};
 ghost use Rattle.path_domain.specs.Laid.{layout_of};
 ghost use Rattle.orders.specs.Relation.{comes};
+ghost use Rattle.plans.specs.Plans.{meant_by};
 ghost use Rattle.commute_prune.specs.Keeping.{Keeps};
 ghost use Rattle.size_limits.specs.Limits.{HasFewPaths, IsLight};
 ghost use Rattle.determinism.specs.First.{IsPrunedCount, IsProof, IsSpent, IsDifference, IfDiffers, IfSpent};
@@ -28,8 +29,8 @@ use answering::Answer;
 use determinism::{First, Sure, judge_any};
 use fs_lang::Program;
 use order_encode::Witness;
-use orders::Order;
 use path_domain::Domain;
+use plans::Plan;
 use proof_check::Verified;
 use rh_base::{Fault, NoMemory};
 use size_limits::check_size;
@@ -48,21 +49,19 @@ struct Ordered {
 /// Asks whether the graph succeeds.
 fn ask_success(
     alloc: Global,
-    programs: &[Program],
-    order: &Order,
+    plan: &Plan<'_>,
     wanted: &Wanted,
     budget: u64,
     ordered: Ordered,
     proof: Verified,
 ) -> Result<Ensured, NoMemory>
-    requires count { length programs.now ≡ order.now.count }
     requires budget { 1 ≤ budget }
-    requires judged { IsJudged (map program_of programs.now) order.now budget (first.Sure ordered.pruned ordered.sure) }
-    requires holds { Ensures (map program_of programs.now) (Told (comes order.now)) wanted.now }
-    requires proof { IsEntryProof (map program_of programs.now) order.now wanted.now proof.formula }
-    ensures { IfOk result (IsEnsured (map program_of programs.now) order.now wanted.now budget) }
+    requires judged { IsJudged (meant_by plan.now) plan.now.order.now budget (first.Sure ordered.pruned ordered.sure) }
+    requires holds { Ensures (meant_by plan.now) (Told (comes plan.now.order.now)) wanted.now }
+    requires proof { IsEntryProof (meant_by plan.now) plan.now.order.now wanted.now proof.formula }
+    ensures { IfOk result (IsEnsured (meant_by plan.now) plan.now.order.now wanted.now budget) }
 {
-    let end = ask_end(alloc, programs, order, budget)?;
+    let end = ask_end(alloc, plan, budget)?;
     let Ordered { pruned, sure } = ordered;
     match end {
         Answer::Shown(witness) => Ok(Ensured::Holds {
@@ -90,21 +89,19 @@ fn ask_success(
 /// Where the graph ensures the entry: whether it succeeds, which is asked unless a run that ends is known.
 fn ensure_held(
     alloc: Global,
-    programs: &[Program],
-    order: &Order,
+    plan: &Plan<'_>,
     wanted: &Wanted,
     budget: u64,
     ordered: Ordered,
     end: Option<Witness>,
     proof: Verified,
 ) -> Result<Ensured, NoMemory>
-    requires count { length programs.now ≡ order.now.count }
     requires budget { 1 ≤ budget }
-    requires judged { IsJudged (map program_of programs.now) order.now budget (first.Sure ordered.pruned ordered.sure) }
-    requires end { IfSome end (IsEnd (map program_of programs.now) order.now) }
-    requires holds { Ensures (map program_of programs.now) (Told (comes order.now)) wanted.now }
-    requires proof { IsEntryProof (map program_of programs.now) order.now wanted.now proof.formula }
-    ensures { IfOk result (IsEnsured (map program_of programs.now) order.now wanted.now budget) }
+    requires judged { IsJudged (meant_by plan.now) plan.now.order.now budget (first.Sure ordered.pruned ordered.sure) }
+    requires end { IfSome end (IsEnd (meant_by plan.now) plan.now.order.now) }
+    requires holds { Ensures (meant_by plan.now) (Told (comes plan.now.order.now)) wanted.now }
+    requires proof { IsEntryProof (meant_by plan.now) plan.now.order.now wanted.now proof.formula }
+    ensures { IfOk result (IsEnsured (meant_by plan.now) plan.now.order.now wanted.now budget) }
 {
     match end {
         Some(witness) => {
@@ -116,30 +113,28 @@ fn ensure_held(
                 ends: Ends::From(witness),
             })
         }
-        None => ask_success(alloc, programs, order, wanted, budget, ordered, proof),
+        None => ask_success(alloc, plan, wanted, budget, ordered, proof),
     }
 }
 
 /// Asks whether a run ends without the entry.
 fn ask_entry(
     alloc: Global,
-    programs: &[Program],
-    order: &Order,
+    plan: &Plan<'_>,
     domain: &Domain,
     wanted: &Wanted,
     budget: u64,
     ordered: Ordered,
     end: Option<Witness>,
 ) -> Result<Ensured, NoMemory>
-    requires count { length programs.now ≡ order.now.count }
     requires budget { 1 ≤ budget }
-    requires layout { IsLayout (map program_of programs.now ++ probe_of wanted.now ∷ []) (layout_of domain.now) }
-    requires covers { CoversSteps domain.now.table (programs_in programs.now) }
-    requires judged { IsJudged (map program_of programs.now) order.now budget (first.Sure ordered.pruned ordered.sure) }
-    requires end { IfSome end (IsEnd (map program_of programs.now) order.now) }
-    ensures { IfOk result (IsEnsured (map program_of programs.now) order.now wanted.now budget) }
+    requires layout { IsLayout (meant_by plan.now ++ probe_of wanted.now ∷ []) (layout_of domain.now) }
+    requires covers { CoversSteps domain.now.table (programs_in plan.now.programs.now) }
+    requires judged { IsJudged (meant_by plan.now) plan.now.order.now budget (first.Sure ordered.pruned ordered.sure) }
+    requires end { IfSome end (IsEnd (meant_by plan.now) plan.now.order.now) }
+    ensures { IfOk result (IsEnsured (meant_by plan.now) plan.now.order.now wanted.now budget) }
 {
-    let answer = ask_run(alloc, programs, order, domain, wanted, budget)?;
+    let answer = ask_run(alloc, plan, domain, wanted, budget)?;
     match answer {
         Answer::Shown(witness) => {
             let Ordered { pruned, sure } = ordered;
@@ -149,9 +144,7 @@ fn ask_entry(
                 witness,
             })
         }
-        Answer::Refuted(proof) => {
-            ensure_held(alloc, programs, order, wanted, budget, ordered, end, proof)
-        }
+        Answer::Refuted(proof) => { ensure_held(alloc, plan, wanted, budget, ordered, end, proof) }
         Answer::Spent(cnf, log) => {
             let Ordered { pruned, sure } = ordered;
             Ok(Ensured::Spent {
@@ -168,21 +161,19 @@ fn ask_entry(
 /// Tries a few trees, and asks where their runs don't tell.
 fn ensure_sure(
     alloc: Global,
-    programs: &[Program],
-    order: &Order,
+    plan: &Plan<'_>,
     domain: &Domain,
     wanted: &Wanted,
     budget: u64,
     ordered: Ordered,
 ) -> Result<Ensured, NoMemory>
-    requires count { length programs.now ≡ order.now.count }
     requires budget { 1 ≤ budget }
-    requires layout { IsLayout (map program_of programs.now ++ probe_of wanted.now ∷ []) (layout_of domain.now) }
-    requires covers { CoversSteps domain.now.table (programs_in programs.now) }
-    requires judged { IsJudged (map program_of programs.now) order.now budget (first.Sure ordered.pruned ordered.sure) }
-    ensures { IfOk result (IsEnsured (map program_of programs.now) order.now wanted.now budget) }
+    requires layout { IsLayout (meant_by plan.now ++ probe_of wanted.now ∷ []) (layout_of domain.now) }
+    requires covers { CoversSteps domain.now.table (programs_in plan.now.programs.now) }
+    requires judged { IsJudged (meant_by plan.now) plan.now.order.now budget (first.Sure ordered.pruned ordered.sure) }
+    ensures { IfOk result (IsEnsured (meant_by plan.now) plan.now.order.now wanted.now budget) }
 {
-    let tried = try_runs(alloc, programs, order, wanted)?;
+    let tried = try_runs(alloc, plan, wanted)?;
     match tried {
         Tried::Missed(witness) => {
             let Ordered { pruned, sure } = ordered;
@@ -194,42 +185,36 @@ fn ensure_sure(
         }
         Tried::Ended(witness) => ask_entry(
             alloc,
-            programs,
-            order,
+            plan,
             domain,
             wanted,
             budget,
             ordered,
             Some(witness),
         ),
-        Tried::Nothing => ask_entry(
-            alloc, programs, order, domain, wanted, budget, ordered, None,
-        ),
+        Tried::Nothing => ask_entry(alloc, plan, domain, wanted, budget, ordered, None),
     }
 }
 
 /// Goes on from the answer to the question of order.
 fn ensure_on(
     alloc: Global,
-    programs: &[Program],
-    order: &Order,
+    plan: &Plan<'_>,
     domain: &Domain,
     wanted: &Wanted,
     budget: u64,
     answered: First,
 ) -> Result<Ensured, NoMemory>
-    requires count { length programs.now ≡ order.now.count }
     requires budget { 1 ≤ budget }
-    requires layout { IsLayout (map program_of programs.now ++ probe_of wanted.now ∷ []) (layout_of domain.now) }
-    requires covers { CoversSteps domain.now.table (programs_in programs.now) }
-    requires judged { IsJudged (map program_of programs.now) order.now budget answered }
-    ensures { IfOk result (IsEnsured (map program_of programs.now) order.now wanted.now budget) }
+    requires layout { IsLayout (meant_by plan.now ++ probe_of wanted.now ∷ []) (layout_of domain.now) }
+    requires covers { CoversSteps domain.now.table (programs_in plan.now.programs.now) }
+    requires judged { IsJudged (meant_by plan.now) plan.now.order.now budget answered }
+    ensures { IfOk result (IsEnsured (meant_by plan.now) plan.now.order.now wanted.now budget) }
 {
     match answered {
         First::Sure { pruned, sure } => ensure_sure(
             alloc,
-            programs,
-            order,
+            plan,
             domain,
             wanted,
             budget,
@@ -263,18 +248,16 @@ fn check_with_probe(alloc: Global, programs: &[Program], wanted: &Wanted) -> Res
 /// What `judge_entry` answers, however large the graph is.
 pub fn ensured_any(
     alloc: Global,
-    programs: &[Program],
-    order: &Order,
+    plan: &Plan<'_>,
     wanted: &Wanted,
     budget: u64,
 ) -> Result<Ensured, NoMemory>
-    requires count { length programs.now ≡ order.now.count }
-    requires budget { 1 ≤ budget }
-    ensures { IfOk result (IsEnsured (map program_of programs.now) order.now wanted.now budget) }
+    requires { 1 ≤ budget }
+    ensures { IfOk result (IsEnsured (meant_by plan.now) plan.now.order.now wanted.now budget) }
 {
-    let d = domain_with_probe(alloc, programs, wanted)?;
-    let answered = judge_any(alloc, programs, order, budget)?;
-    ensure_on(alloc, programs, order, &d, wanted, budget, answered)
+    let d = domain_with_probe(alloc, plan.programs, wanted)?;
+    let answered = judge_any(alloc, plan, budget)?;
+    ensure_on(alloc, plan, &d, wanted, budget, answered)
 }
 
 /// Whether every run that ends has the wanted entry. First it is asked whether the programs are deterministic, as `judge_order`
@@ -283,45 +266,43 @@ pub fn ensured_any(
 /// whole budget; a budget of `u64::MAX` stands for none.
 pub fn judge_entry(
     alloc: Global,
-    programs: &[Program],
-    order: &Order,
+    plan: &Plan<'_>,
     wanted: &Wanted,
     budget: u64,
 ) -> Result<Ensured, Fault>
-    requires count { length programs.now ≡ order.now.count }
-    requires budget { 1 ≤ budget }
+    requires { 1 ≤ budget }
     // It is refused exactly where the graph is too large to be asked about, or the domain with the probe is.
-    ensures paths { IfOk result (λ e. HasFewPaths (map program_of programs.now)) }
-    ensures probed { IfOk result (λ e. HasFewPaths (map program_of programs.now ++ probe_of wanted.now ∷ [])) }
-    ensures weight { IfOk result (λ e. IsLight (map program_of programs.now)) }
-    ensures refused { IfErr result (λ e. IfRefused e (IsTooLargeWith (map program_of programs.now) (probe_of wanted.now))) }
-    ensures only { HasFewPaths (map program_of programs.now)
-        → HasFewPaths (map program_of programs.now ++ probe_of wanted.now ∷ []) → IsLight (map program_of programs.now)
+    ensures paths { IfOk result (λ e. HasFewPaths (meant_by plan.now)) }
+    ensures probed { IfOk result (λ e. HasFewPaths (meant_by plan.now ++ probe_of wanted.now ∷ [])) }
+    ensures weight { IfOk result (λ e. IsLight (meant_by plan.now)) }
+    ensures refused { IfErr result (λ e. IfRefused e (IsTooLargeWith (meant_by plan.now) (probe_of wanted.now))) }
+    ensures only { HasFewPaths (meant_by plan.now)
+        → HasFewPaths (meant_by plan.now ++ probe_of wanted.now ∷ []) → IsLight (meant_by plan.now)
         → IfErr result (λ e. IfRefused e (λ r. ⊥)) }
     // What is answered to the question of order is what `judge_order` answers.
-    ensures pruned { IfOk result (λ e. IsPrunedCount (map program_of programs.now) (Told (comes order.now)) (pruned_in e)) }
+    ensures pruned { IfOk result (λ e. IsPrunedCount (meant_by plan.now) (Told (comes plan.now.order.now)) (pruned_in e)) }
     ensures unsure { IfOk result (λ e. IfFirst e IsUnsure) }
     ensures differs { IfOk result
-        (λ e. IfFirst e (λ f. IfDiffers f (IsDifference (map program_of programs.now) (Told (comes order.now))))) }
+        (λ e. IfFirst e (λ f. IfDiffers f (IsDifference (meant_by plan.now) (Told (comes plan.now.order.now))))) }
     ensures spent_on_order { IfOk result
-        (λ e. IfFirst e (λ f. IfSpent f (IsSpent (map program_of programs.now) (Told (comes order.now)) budget))) }
-    ensures deterministic { IfOk result (λ e. IfSure e (λ sure. IsDeterministic (map program_of programs.now) (Told (comes order.now)))) }
+        (λ e. IfFirst e (λ f. IfSpent f (IsSpent (meant_by plan.now) (Told (comes plan.now.order.now)) budget))) }
+    ensures deterministic { IfOk result (λ e. IfSure e (λ sure. IsDeterministic (meant_by plan.now) (Told (comes plan.now.order.now)))) }
     ensures alone { IfOk result (λ e. IfSure e (λ sure. IsByPruning sure
-        ↔ Keeps (map program_of programs.now) (Told (comes order.now)) [])) }
-    ensures proved { IfOk result (λ e. IfSure e (λ sure. IfByProof sure (IsProof (map program_of programs.now) (Told (comes order.now))))) }
+        ↔ Keeps (meant_by plan.now) (Told (comes plan.now.order.now)) [])) }
+    ensures proved { IfOk result (λ e. IfSure e (λ sure. IfByProof sure (IsProof (meant_by plan.now) (Told (comes plan.now.order.now))))) }
     // Over every file tree and all orders.
-    ensures holds { IfOk result (λ e. IfHolds e (λ f. Ensures (map program_of programs.now) (Told (comes order.now)) wanted.now)) }
-    ensures refuted { IfOk result (λ e. IfHolds e (IsEntryProof (map program_of programs.now) order.now wanted.now)) }
-    ensures succeeds { IfOk result (λ e. IfFrom e (λ w. Succeeds (map program_of programs.now) (Told (comes order.now)))) }
-    ensures from { IfOk result (λ e. IfFrom e (IsEnd (map program_of programs.now) order.now)) }
-    ensures never { IfOk result (λ e. IfNever e (λ f. Succeeds (map program_of programs.now) (Told (comes order.now)) → ⊥)) }
-    ensures failing { IfOk result (λ e. IfNever e (IsEndProof (map program_of programs.now) order.now)) }
-    ensures fails { IfOk result (λ e. IfFails e (IsMissed (map program_of programs.now) order.now wanted.now)) }
-    ensures spent { IfOk result (λ e. IfSpentOn e (IsSpentOn (map program_of programs.now) order.now wanted.now budget)) }
+    ensures holds { IfOk result (λ e. IfHolds e (λ f. Ensures (meant_by plan.now) (Told (comes plan.now.order.now)) wanted.now)) }
+    ensures refuted { IfOk result (λ e. IfHolds e (IsEntryProof (meant_by plan.now) plan.now.order.now wanted.now)) }
+    ensures succeeds { IfOk result (λ e. IfFrom e (λ w. Succeeds (meant_by plan.now) (Told (comes plan.now.order.now)))) }
+    ensures from { IfOk result (λ e. IfFrom e (IsEnd (meant_by plan.now) plan.now.order.now)) }
+    ensures never { IfOk result (λ e. IfNever e (λ f. Succeeds (meant_by plan.now) (Told (comes plan.now.order.now)) → ⊥)) }
+    ensures failing { IfOk result (λ e. IfNever e (IsEndProof (meant_by plan.now) plan.now.order.now)) }
+    ensures fails { IfOk result (λ e. IfFails e (IsMissed (meant_by plan.now) plan.now.order.now wanted.now)) }
+    ensures spent { IfOk result (λ e. IfSpentOn e (IsSpentOn (meant_by plan.now) plan.now.order.now wanted.now budget)) }
     ensures known { IfOk result
-        (λ e. IfSpentOn e (λ asked f steps. IsKnownBefore (map program_of programs.now) order.now wanted.now asked)) }
+        (λ e. IfSpentOn e (λ asked f steps. IsKnownBefore (meant_by plan.now) plan.now.order.now wanted.now asked)) }
 {
-    check_with_probe(alloc, programs, wanted)?;
-    let ensured = ensured_any(alloc, programs, order, wanted, budget)?;
+    check_with_probe(alloc, plan.programs, wanted)?;
+    let ensured = ensured_any(alloc, plan, wanted, budget)?;
     Ok(ensured)
 }

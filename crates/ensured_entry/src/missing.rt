@@ -1,12 +1,13 @@
 //! Whether a run of a deterministic graph ends without the wanted entry.
 
-ghost use Rattle.std.specs.Prelude.{◌≡◌, ◌≤◌, ◌++◌, ◌∷◌, [], map, length, IfOk};
+ghost use Rattle.std.specs.Prelude.{◌≤◌, ◌++◌, ◌∷◌, [], IfOk};
 ghost use Rattle.fs_semantics.specs.Orders.{Told, IsDeterministic};
-ghost use Rattle.fs_lang.specs.Meaning.{program_of, programs_in};
+ghost use Rattle.fs_lang.specs.Meaning.{programs_in};
 ghost use Rattle.fs_interpreter.specs.Places.{CoversSteps};
 ghost use Rattle.finite_domain.specs.Layouts.{IsLayout};
 ghost use Rattle.path_domain.specs.Laid.{layout_of};
 ghost use Rattle.orders.specs.Relation.{comes};
+ghost use Rattle.plans.specs.Plans.{meant_by};
 ghost use Rattle.proof_check.specs.Refuted.{HasNoModel};
 ghost use Rattle.order_encode.specs.Asked.{CanShow};
 ghost use Rattle.order_encode.specs.declared.witness.Witness.{Witness};
@@ -15,11 +16,10 @@ ghost use Rattle.ensured_entry.specs.Questions.{StatesMissing, IsMissed, Answers
 
 use answering::{Answer, answer_to};
 use finite_domain::domains;
-use fs_lang::Program;
 use order_encode::{Question, ask_missing};
 use order_extensions::has_first_extension;
-use orders::Order;
 use path_domain::Domain;
+use plans::Plan;
 use rh_base::NoMemory;
 use std::alloc::Global;
 use wanted_entry::{Wanted, wanted_entries};
@@ -28,41 +28,37 @@ use wanted_entry::{Wanted, wanted_entries};
 /// model, the graph ensures the entry: the programs are deterministic, so that the first extension stands for all allowed orders.
 fn missing_question(
     alloc: Global,
-    programs: &[Program],
-    order: &Order,
+    plan: &Plan<'_>,
     domain: &Domain,
     wanted: &Wanted,
 ) -> Result<Question, NoMemory>
-    requires count { length programs.now ≡ order.now.count }
-    requires deterministic { IsDeterministic (map program_of programs.now) (Told (comes order.now)) }
-    requires layout { IsLayout (map program_of programs.now ++ probe_of wanted.now ∷ []) (layout_of domain.now) }
-    requires covers { CoversSteps domain.now.table (programs_in programs.now) }
-    ensures states { IfOk result (λ q. StatesMissing (map program_of programs.now) order.now wanted.now q.formula) }
-    ensures ensured { IfOk result (λ q. HasNoModel q.formula → Ensures (map program_of programs.now) (Told (comes order.now)) wanted.now) }
-    ensures models { IfOk result (λ q. (w : Witness) → CanShow q w → IsMissed (map program_of programs.now) order.now wanted.now w) }
+    requires deterministic { IsDeterministic (meant_by plan.now) (Told (comes plan.now.order.now)) }
+    requires layout { IsLayout (meant_by plan.now ++ probe_of wanted.now ∷ []) (layout_of domain.now) }
+    requires covers { CoversSteps domain.now.table (programs_in plan.now.programs.now) }
+    ensures states { IfOk result (λ q. StatesMissing (meant_by plan.now) plan.now.order.now wanted.now q.formula) }
+    ensures ensured { IfOk result (λ q. HasNoModel q.formula → Ensures (meant_by plan.now) (Told (comes plan.now.order.now)) wanted.now) }
+    ensures models { IfOk result (λ q. (w : Witness) → CanShow q w → IsMissed (meant_by plan.now) plan.now.order.now wanted.now w) }
 {
     domains();
     wanted_entries();
-    has_first_extension(order);
-    ask_missing(alloc, programs, order, domain, wanted)
+    has_first_extension(plan.order);
+    ask_missing(alloc, plan.programs, plan.order, domain, wanted)
 }
 
 /// Asks whether a run ends without the entry.
 pub(crate) fn ask_run(
     alloc: Global,
-    programs: &[Program],
-    order: &Order,
+    plan: &Plan<'_>,
     domain: &Domain,
     wanted: &Wanted,
     budget: u64,
 ) -> Result<Answer, NoMemory>
-    requires count { length programs.now ≡ order.now.count }
     requires budget { 1 ≤ budget }
-    requires deterministic { IsDeterministic (map program_of programs.now) (Told (comes order.now)) }
-    requires layout { IsLayout (map program_of programs.now ++ probe_of wanted.now ∷ []) (layout_of domain.now) }
-    requires covers { CoversSteps domain.now.table (programs_in programs.now) }
-    ensures { IfOk result (AnswersMissing (map program_of programs.now) order.now wanted.now budget) }
+    requires deterministic { IsDeterministic (meant_by plan.now) (Told (comes plan.now.order.now)) }
+    requires layout { IsLayout (meant_by plan.now ++ probe_of wanted.now ∷ []) (layout_of domain.now) }
+    requires covers { CoversSteps domain.now.table (programs_in plan.now.programs.now) }
+    ensures { IfOk result (AnswersMissing (meant_by plan.now) plan.now.order.now wanted.now budget) }
 {
-    let question = missing_question(alloc, programs, order, domain, wanted)?;
+    let question = missing_question(alloc, plan, domain, wanted)?;
     answer_to(alloc, question, budget)
 }

@@ -1,15 +1,16 @@
 //! Runs from a few trees, before any formula is made.
 
-ghost use Rattle.std.specs.Prelude.{◌≡◌, ◌↔◌, ◌<◌, length, map, IsTrue, IfSome, IfOk};
+ghost use Rattle.std.specs.Prelude.{◌↔◌, ◌<◌, length, map, IsTrue, IfSome, IfOk};
 ghost use Rattle.std.specs.List.{AllByRecursion};
 ghost use Rattle.fs_lang.specs.Meaning.{program_of};
+ghost use Rattle.plans.specs.Plans.{meant_by};
 ghost use Rattle.order_encode.specs.Missing.{EndsMissing};
 ghost use Rattle.ensured_entry.specs.Tried.{MissesFrom, IsTried};
 
 use fs_lang::{Outcome, Program, Tree};
 use fs_replay::replay;
 use order_encode::Witness;
-use orders::Order;
+use plans::Plan;
 use rh_base::NoMemory;
 use std::alloc::Global;
 use tried_trees::{first_end, first_trees};
@@ -66,22 +67,22 @@ fn first_missed(
 }
 
 /// Runs the first extension from a few trees.
-pub(crate) fn try_runs(
-    alloc: Global,
-    programs: &[Program],
-    order: &Order,
-    wanted: &Wanted,
-) -> Result<Tried, NoMemory>
-    requires { length programs.now ≡ order.now.count }
-    ensures { IfOk result (IsTried (map program_of programs.now) order.now wanted.now) }
+pub(crate) fn try_runs(alloc: Global, plan: &Plan<'_>, wanted: &Wanted) -> Result<Tried, NoMemory>
+    ensures { IfOk result (IsTried (meant_by plan.now) plan.now.order.now wanted.now) }
 {
-    let first = order.first_extension()?;
-    let trees = first_trees(alloc, programs)?;
-    let missed = first_missed(alloc, programs, first.as_slice(), wanted, trees.as_slice())?;
+    let first = plan.order.first_extension()?;
+    let trees = first_trees(alloc, plan.programs)?;
+    let missed = first_missed(
+        alloc,
+        plan.programs,
+        first.as_slice(),
+        wanted,
+        trees.as_slice(),
+    )?;
     if let Some(tree) = missed {
         return Ok(Tried::Missed(Witness::Ends { tree, order: first }));
     }
-    let ended = first_end(alloc, programs, first.as_slice(), trees.as_slice())?;
+    let ended = first_end(alloc, plan.programs, first.as_slice(), trees.as_slice())?;
     match ended {
         Some(tree) => Ok(Tried::Ended(Witness::Ends { tree, order: first })),
         None => Ok(Tried::Nothing),

@@ -3,6 +3,7 @@
 ghost use Rattle.std.specs.Prelude.{◌≡◌, length, map, IfOk, IfErr};
 ghost use Rattle.rh_base.specs.Refused.{IfRefused};
 ghost use Rattle.fs_lang.specs.Meaning.{program_of};
+ghost use Rattle.plans.specs.Plans.{meant_by};
 ghost use Rattle.given_entry.specs.Sizes.{IsTooLargeProbed};
 ghost use Rattle.entry_report.specs.Lines.{status_of, first_status, first_lines, lines_of};
 ghost use Rattle.entry_report.specs.Steps.{IsTellable, IsTellableFirst, IsReportOf};
@@ -13,7 +14,7 @@ use determinism::First;
 use ensured_entry::Ensured;
 use fs_lang::Program;
 use given_entry::judge_entry_from;
-use orders::Order;
+use plans::Plan;
 use question_terms::Terms;
 use rh_base::{Fault, NoMemory, Seq, Text};
 use std::alloc::Global;
@@ -131,19 +132,17 @@ pub fn told(
     notes: &[u8],
     wanted: &Wanted,
     names: &[Text],
-    programs: &[Program],
-    order: &Order,
+    plan: &Plan<'_>,
 ) -> Result<Report, Fault>
-    requires count { length programs.now ≡ order.now.count }
-    requires names { length names.now ≡ order.now.count }
-    ensures told { IfOk result (IsEntryTold terms.now notes.now wanted.now names.now (map program_of programs.now) order.now) }
+    requires { length names.now ≡ plan.now.order.now.count }
+    ensures told { IfOk result (IsEntryTold terms.now notes.now wanted.now names.now (meant_by plan.now) plan.now.order.now) }
     // It is refused exactly where the graph is too large to be asked about, or the domain with the entry is.
     ensures refused { IfErr result
         (λ e. IfRefused e (IsTooLargeProbed terms.now.limits terms.now.given
-        (map program_of programs.now) wanted.now)) }
+        (meant_by plan.now) wanted.now)) }
 {
-    let answered = judge_entry_from(alloc, programs, order, wanted, terms)?;
+    let answered = judge_entry_from(alloc, plan, wanted, terms)?;
     let budget = terms.budget();
-    let report = report_of(alloc, names, programs, notes, budget, &answered)?;
+    let report = report_of(alloc, names, plan.programs, notes, budget, &answered)?;
     Ok(report)
 }

@@ -1,14 +1,15 @@
 //! Comparing two graphs. A witness of the formula has a run of the left graph; its tree is what matters, since the orders that
 //! are told are the first extensions.
 
-ghost use Rattle.std.specs.Prelude.{◌≡◌, ◌≤◌, ◌++◌, length, map, IfOk, IfErr};
+ghost use Rattle.std.specs.Prelude.{◌≡◌, ◌≤◌, ◌++◌, IfOk, IfErr};
 ghost use Rattle.rh_base.specs.Refused.{IfRefused};
 ghost use Rattle.fs_semantics.specs.Orders.{Told};
-ghost use Rattle.fs_lang.specs.Meaning.{program_of, programs_in};
+ghost use Rattle.fs_lang.specs.Meaning.{programs_in};
 ghost use Rattle.fs_interpreter.specs.Places.{CoversSteps};
 ghost use Rattle.finite_domain.specs.Layouts.{IsLayout};
 ghost use Rattle.path_domain.specs.Laid.{layout_of};
 ghost use Rattle.orders.specs.Relation.{comes};
+ghost use Rattle.plans.specs.Plans.{meant_by};
 ghost use Rattle.determinism.specs.Answers.{IsJudged};
 ghost use Rattle.equal_graphs.specs.Equal.{AreEqual, FirstsPart};
 ghost use Rattle.equal_graphs.specs.Sizes.{AreWithin, IsTooLargeTogether};
@@ -21,10 +22,10 @@ use crate::joining::{check_within, domain_of_both};
 use crate::trying::try_runs;
 use answering::Answer;
 use determinism::{First, judge_any};
-use fs_lang::{Program, Tree};
+use fs_lang::Tree;
 use order_encode::Witness;
-use orders::Order;
 use path_domain::Domain;
+use plans::Plan;
 use rh_base::{Fault, NoMemory};
 use std::alloc::Global;
 
@@ -42,26 +43,22 @@ fn tree_in(witness: Witness) -> Tree
 /// Asks whether two graphs do the same of which each is deterministic.
 fn ask_settled(
     alloc: Global,
-    left: &[Program],
-    order: &Order,
-    right: &[Program],
-    other: &Order,
+    left: &Plan<'_>,
+    right: &Plan<'_>,
     domain: &Domain,
     budget: u64,
     one: Settled,
     second: Settled,
 ) -> Result<Compared, NoMemory>
-    requires left_count { length left.now ≡ order.now.count }
-    requires right_count { length right.now ≡ other.now.count }
     requires budget { 1 ≤ budget }
-    requires layout { IsLayout (map program_of left.now ++ map program_of right.now) (layout_of domain.now) }
-    requires left_covers { CoversSteps domain.now.table (programs_in left.now) }
-    requires right_covers { CoversSteps domain.now.table (programs_in right.now) }
-    requires left_settled { IsSettled (map program_of left.now) order.now one }
-    requires right_settled { IsSettled (map program_of right.now) other.now second }
-    ensures { IfOk result (IsCompared (map program_of left.now) order.now (map program_of right.now) other.now budget) }
+    requires layout { IsLayout (meant_by left.now ++ meant_by right.now) (layout_of domain.now) }
+    requires left_covers { CoversSteps domain.now.table (programs_in left.now.programs.now) }
+    requires right_covers { CoversSteps domain.now.table (programs_in right.now.programs.now) }
+    requires left_settled { IsSettled (meant_by left.now) left.now.order.now one }
+    requires right_settled { IsSettled (meant_by right.now) right.now.order.now second }
+    ensures { IfOk result (IsCompared (meant_by left.now) left.now.order.now (meant_by right.now) right.now.order.now budget) }
 {
-    let answer = ask_equal(alloc, left, order, right, other, domain, budget)?;
+    let answer = ask_equal(alloc, left, right, domain, budget)?;
     match answer {
         Answer::Shown(witness) => Ok(Compared::Differ {
             left: one,
@@ -85,67 +82,55 @@ fn ask_settled(
 /// Tries a few trees, and asks where their runs don't tell.
 fn compare_settled(
     alloc: Global,
-    left: &[Program],
-    order: &Order,
-    right: &[Program],
-    other: &Order,
+    left: &Plan<'_>,
+    right: &Plan<'_>,
     domain: &Domain,
     budget: u64,
     one: Settled,
     second: Settled,
 ) -> Result<Compared, NoMemory>
-    requires left_count { length left.now ≡ order.now.count }
-    requires right_count { length right.now ≡ other.now.count }
     requires budget { 1 ≤ budget }
-    requires layout { IsLayout (map program_of left.now ++ map program_of right.now) (layout_of domain.now) }
-    requires left_covers { CoversSteps domain.now.table (programs_in left.now) }
-    requires right_covers { CoversSteps domain.now.table (programs_in right.now) }
-    requires left_settled { IsSettled (map program_of left.now) order.now one }
-    requires right_settled { IsSettled (map program_of right.now) other.now second }
-    ensures { IfOk result (IsCompared (map program_of left.now) order.now (map program_of right.now) other.now budget) }
+    requires layout { IsLayout (meant_by left.now ++ meant_by right.now) (layout_of domain.now) }
+    requires left_covers { CoversSteps domain.now.table (programs_in left.now.programs.now) }
+    requires right_covers { CoversSteps domain.now.table (programs_in right.now.programs.now) }
+    requires left_settled { IsSettled (meant_by left.now) left.now.order.now one }
+    requires right_settled { IsSettled (meant_by right.now) right.now.order.now second }
+    ensures { IfOk result (IsCompared (meant_by left.now) left.now.order.now (meant_by right.now) right.now.order.now budget) }
 {
-    let found = try_runs(alloc, left, order, right, other)?;
+    let found = try_runs(alloc, left, right)?;
     match found {
         Some(tree) => Ok(Compared::Differ {
             left: one,
             right: second,
             tree,
         }),
-        None => ask_settled(
-            alloc, left, order, right, other, domain, budget, one, second,
-        ),
+        None => ask_settled(alloc, left, right, domain, budget, one, second),
     }
 }
 
 /// Goes on from the answer to the question of order of the right graph.
 fn compare_right(
     alloc: Global,
-    left: &[Program],
-    order: &Order,
-    right: &[Program],
-    other: &Order,
+    left: &Plan<'_>,
+    right: &Plan<'_>,
     domain: &Domain,
     budget: u64,
     one: Settled,
     answered: First,
 ) -> Result<Compared, NoMemory>
-    requires left_count { length left.now ≡ order.now.count }
-    requires right_count { length right.now ≡ other.now.count }
     requires budget { 1 ≤ budget }
-    requires layout { IsLayout (map program_of left.now ++ map program_of right.now) (layout_of domain.now) }
-    requires left_covers { CoversSteps domain.now.table (programs_in left.now) }
-    requires right_covers { CoversSteps domain.now.table (programs_in right.now) }
-    requires left_settled { IsSettled (map program_of left.now) order.now one }
-    requires judged { IsJudged (map program_of right.now) other.now budget answered }
-    ensures { IfOk result (IsCompared (map program_of left.now) order.now (map program_of right.now) other.now budget) }
+    requires layout { IsLayout (meant_by left.now ++ meant_by right.now) (layout_of domain.now) }
+    requires left_covers { CoversSteps domain.now.table (programs_in left.now.programs.now) }
+    requires right_covers { CoversSteps domain.now.table (programs_in right.now.programs.now) }
+    requires left_settled { IsSettled (meant_by left.now) left.now.order.now one }
+    requires judged { IsJudged (meant_by right.now) right.now.order.now budget answered }
+    ensures { IfOk result (IsCompared (meant_by left.now) left.now.order.now (meant_by right.now) right.now.order.now budget) }
 {
     match answered {
         First::Sure { pruned, sure } => compare_settled(
             alloc,
             left,
-            order,
             right,
-            other,
             domain,
             budget,
             one,
@@ -165,56 +150,44 @@ fn compare_right(
 /// Asks whether the right graph is deterministic, where the left one is, and goes on from there.
 fn judge_right(
     alloc: Global,
-    left: &[Program],
-    order: &Order,
-    right: &[Program],
-    other: &Order,
+    left: &Plan<'_>,
+    right: &Plan<'_>,
     domain: &Domain,
     budget: u64,
     one: Settled,
 ) -> Result<Compared, NoMemory>
-    requires left_count { length left.now ≡ order.now.count }
-    requires right_count { length right.now ≡ other.now.count }
     requires budget { 1 ≤ budget }
-    requires layout { IsLayout (map program_of left.now ++ map program_of right.now) (layout_of domain.now) }
-    requires left_covers { CoversSteps domain.now.table (programs_in left.now) }
-    requires right_covers { CoversSteps domain.now.table (programs_in right.now) }
-    requires left_settled { IsSettled (map program_of left.now) order.now one }
-    ensures { IfOk result (IsCompared (map program_of left.now) order.now (map program_of right.now) other.now budget) }
+    requires layout { IsLayout (meant_by left.now ++ meant_by right.now) (layout_of domain.now) }
+    requires left_covers { CoversSteps domain.now.table (programs_in left.now.programs.now) }
+    requires right_covers { CoversSteps domain.now.table (programs_in right.now.programs.now) }
+    requires left_settled { IsSettled (meant_by left.now) left.now.order.now one }
+    ensures { IfOk result (IsCompared (meant_by left.now) left.now.order.now (meant_by right.now) right.now.order.now budget) }
 {
-    let answered = judge_any(alloc, right, other, budget)?;
-    compare_right(
-        alloc, left, order, right, other, domain, budget, one, answered,
-    )
+    let answered = judge_any(alloc, right, budget)?;
+    compare_right(alloc, left, right, domain, budget, one, answered)
 }
 
 /// Goes on from the answer to the question of order of the left graph.
 fn compare_left(
     alloc: Global,
-    left: &[Program],
-    order: &Order,
-    right: &[Program],
-    other: &Order,
+    left: &Plan<'_>,
+    right: &Plan<'_>,
     domain: &Domain,
     budget: u64,
     answered: First,
 ) -> Result<Compared, NoMemory>
-    requires left_count { length left.now ≡ order.now.count }
-    requires right_count { length right.now ≡ other.now.count }
     requires budget { 1 ≤ budget }
-    requires layout { IsLayout (map program_of left.now ++ map program_of right.now) (layout_of domain.now) }
-    requires left_covers { CoversSteps domain.now.table (programs_in left.now) }
-    requires right_covers { CoversSteps domain.now.table (programs_in right.now) }
-    requires judged { IsJudged (map program_of left.now) order.now budget answered }
-    ensures { IfOk result (IsCompared (map program_of left.now) order.now (map program_of right.now) other.now budget) }
+    requires layout { IsLayout (meant_by left.now ++ meant_by right.now) (layout_of domain.now) }
+    requires left_covers { CoversSteps domain.now.table (programs_in left.now.programs.now) }
+    requires right_covers { CoversSteps domain.now.table (programs_in right.now.programs.now) }
+    requires judged { IsJudged (meant_by left.now) left.now.order.now budget answered }
+    ensures { IfOk result (IsCompared (meant_by left.now) left.now.order.now (meant_by right.now) right.now.order.now budget) }
 {
     match answered {
         First::Sure { pruned, sure } => judge_right(
             alloc,
             left,
-            order,
             right,
-            other,
             domain,
             budget,
             Settled { pruned, sure },
@@ -231,20 +204,16 @@ fn compare_left(
 /// What `compare` answers, however large the graphs are.
 pub fn compare_any(
     alloc: Global,
-    left: &[Program],
-    order: &Order,
-    right: &[Program],
-    other: &Order,
+    left: &Plan<'_>,
+    right: &Plan<'_>,
     budget: u64,
 ) -> Result<Compared, NoMemory>
-    requires left_count { length left.now ≡ order.now.count }
-    requires right_count { length right.now ≡ other.now.count }
-    requires budget { 1 ≤ budget }
-    ensures { IfOk result (IsCompared (map program_of left.now) order.now (map program_of right.now) other.now budget) }
+    requires { 1 ≤ budget }
+    ensures { IfOk result (IsCompared (meant_by left.now) left.now.order.now (meant_by right.now) right.now.order.now budget) }
 {
-    let d = domain_of_both(alloc, left, right)?;
-    let answered = judge_any(alloc, left, order, budget)?;
-    compare_left(alloc, left, order, right, other, &d, budget, answered)
+    let d = domain_of_both(alloc, left.programs, right.programs)?;
+    let answered = judge_any(alloc, left, budget)?;
+    compare_left(alloc, left, right, &d, budget, answered)
 }
 
 /// Whether two graphs do the same. First it is asked whether the left one is deterministic, and then whether the right one is, as
@@ -253,36 +222,34 @@ pub fn compare_any(
 /// `u64::MAX` stands for none.
 pub fn compare(
     alloc: Global,
-    left: &[Program],
-    order: &Order,
-    right: &[Program],
-    other: &Order,
+    left: &Plan<'_>,
+    right: &Plan<'_>,
     budget: u64,
 ) -> Result<Compared, Fault>
-    requires left_count { length left.now ≡ order.now.count }
-    requires right_count { length right.now ≡ other.now.count }
-    requires budget { 1 ≤ budget }
+    requires { 1 ≤ budget }
     // It is refused exactly where the two are too large, before all else: together by the paths of their domain, or one of them by
     // itself.
-    ensures within { IfOk result (λ c. AreWithin (map program_of left.now) (map program_of right.now)) }
-    ensures refused { IfErr result (λ e. IfRefused e (IsTooLargeTogether (map program_of left.now) (map program_of right.now))) }
-    ensures only { AreWithin (map program_of left.now) (map program_of right.now) → IfErr result (λ e. IfRefused e (λ r. ⊥)) }
+    ensures within { IfOk result (λ c. AreWithin (meant_by left.now) (meant_by right.now)) }
+    ensures refused { IfErr result (λ e. IfRefused e (IsTooLargeTogether (meant_by left.now) (meant_by right.now))) }
+    ensures only { AreWithin (meant_by left.now) (meant_by right.now) → IfErr result (λ e. IfRefused e (λ r. ⊥)) }
     // What is answered of either by itself is what `judge_order` answers; of the right one it is asked where the left one is
     // deterministic.
-    ensures left { IfOk result (λ c. IfLeft c (IsUnsettled (map program_of left.now) order.now budget)) }
-    ensures left_settled { IfOk result (λ c. IfLeftSettled c (IsSettled (map program_of left.now) order.now)) }
-    ensures right { IfOk result (λ c. IfRight c (IsUnsettled (map program_of right.now) other.now budget)) }
-    ensures right_settled { IfOk result (λ c. IfRightSettled c (IsSettled (map program_of right.now) other.now)) }
+    ensures left { IfOk result (λ c. IfLeft c (IsUnsettled (meant_by left.now) left.now.order.now budget)) }
+    ensures left_settled { IfOk result (λ c. IfLeftSettled c (IsSettled (meant_by left.now) left.now.order.now)) }
+    ensures right { IfOk result (λ c. IfRight c (IsUnsettled (meant_by right.now) right.now.order.now budget)) }
+    ensures right_settled { IfOk result (λ c. IfRightSettled c (IsSettled (meant_by right.now) right.now.order.now)) }
     // Over every file tree and all orders of both.
     ensures equal { IfOk result
-        (λ c. IfEqual c (λ f. AreEqual (map program_of left.now) (Told (comes order.now)) (map program_of right.now)
-        (Told (comes other.now)))) }
-    ensures refuted { IfOk result (λ c. IfEqual c (IsEqualProof (map program_of left.now) order.now (map program_of right.now) other.now)) }
-    ensures differ { IfOk result (λ c. IfDiffer c (FirstsPart (map program_of left.now) order.now (map program_of right.now) other.now)) }
+        (λ c. IfEqual c (λ f. AreEqual (meant_by left.now) (Told (comes left.now.order.now)) (meant_by right.now)
+        (Told (comes right.now.order.now)))) }
+    ensures refuted { IfOk result
+        (λ c. IfEqual c (IsEqualProof (meant_by left.now) left.now.order.now (meant_by right.now) right.now.order.now)) }
+    ensures differ { IfOk result
+        (λ c. IfDiffer c (FirstsPart (meant_by left.now) left.now.order.now (meant_by right.now) right.now.order.now)) }
     ensures spent { IfOk result
-        (λ c. IfSpentOn c (IsSpentOn (map program_of left.now) order.now (map program_of right.now) other.now budget)) }
+        (λ c. IfSpentOn c (IsSpentOn (meant_by left.now) left.now.order.now (meant_by right.now) right.now.order.now budget)) }
 {
-    check_within(alloc, left, right)?;
-    let compared = compare_any(alloc, left, order, right, other, budget)?;
+    check_within(alloc, left.programs, right.programs)?;
+    let compared = compare_any(alloc, left, right, budget)?;
     Ok(compared)
 }

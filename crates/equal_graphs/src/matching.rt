@@ -2,12 +2,13 @@
 //! of two runs is the same wires. The matching is greedy, by the programs' texts; an order that the graph doesn't allow gives
 //! way to the first extension, and only how long it takes depends on any of it.
 
-ghost use Rattle.std.specs.Prelude.{◌≡◌, ◌<◌, ℕ, Some, length, IfOk, IfSome};
+ghost use Rattle.std.specs.Prelude.{◌<◌, ℕ, Some, length, IfOk, IfSome};
 ghost use Rattle.fs_semantics.specs.Orders.{IsLinearExtension};
 ghost use Rattle.orders.specs.Relation.{Comes};
 
 use fs_lang::Program;
 use orders::Order;
+use plans::Plan;
 use rh_base::{NoMemory, Seq};
 use std::alloc::Global;
 use tree_text::program_text;
@@ -117,21 +118,19 @@ fn in_allowed_turns_of(
 /// the same programs come in the same turns; else both first extensions.
 pub(crate) fn common_turns(
     alloc: Global,
-    left: &[Program],
-    order: &Order,
-    right: &[Program],
-    other: &Order,
+    left: &Plan<'_>,
+    right: &Plan<'_>,
 ) -> Result<Turns, NoMemory>
-    ensures left { IfOk result (λ turns. IsLinearExtension order.now.count (Comes order.now) turns.left) }
-    ensures right { IfOk result (λ turns. IsLinearExtension other.now.count (Comes other.now) turns.right) }
+    ensures left { IfOk result (λ turns. IsLinearExtension left.now.order.now.count (Comes left.now.order.now) turns.left) }
+    ensures right { IfOk result (λ turns. IsLinearExtension right.now.order.now.count (Comes right.now.order.now) turns.right) }
 {
-    let first = order.first_extension()?;
-    let second = other.first_extension()?;
-    let texts_left = texts(alloc, left)?;
-    let texts_right = texts(alloc, right)?;
+    let first = left.order.first_extension()?;
+    let second = right.order.first_extension()?;
+    let texts_left = texts(alloc, left.programs)?;
+    let texts_right = texts(alloc, right.programs)?;
     let turned = in_allowed_turns_of(
         alloc,
-        other,
+        right.order,
         texts_right.as_slice(),
         second.as_slice(),
         texts_left.as_slice(),
@@ -145,7 +144,7 @@ pub(crate) fn common_turns(
     }
     let turned = in_allowed_turns_of(
         alloc,
-        order,
+        left.order,
         texts_left.as_slice(),
         first.as_slice(),
         texts_right.as_slice(),

@@ -1,8 +1,9 @@
 //! Runs of both graphs from a few trees, before any formula is made.
 
-ghost use Rattle.std.specs.Prelude.{◌≡◌, ◌↔◌, ◌<◌, length, map, IsTrue, IfSome, IfOk};
+ghost use Rattle.std.specs.Prelude.{◌↔◌, ◌<◌, length, map, IsTrue, IfSome, IfOk};
 ghost use Rattle.std.specs.List.{AllByRecursion};
 ghost use Rattle.fs_lang.specs.Meaning.{program_of};
+ghost use Rattle.plans.specs.Plans.{meant_by};
 ghost use Rattle.order_encode.specs.Parting.{EndDifferently};
 ghost use Rattle.equal_graphs.specs.Equal.{FirstsPart};
 ghost use Rattle.equal_graphs.specs.Tried.{PartsFrom};
@@ -10,7 +11,7 @@ ghost use Rattle.equal_graphs.specs.Tried.{PartsFrom};
 use crate::joining::joined;
 use fs_lang::{Program, Tree};
 use fs_replay::{replay, same_outcome};
-use orders::Order;
+use plans::Plan;
 use rh_base::{NoMemory, Seq};
 use std::alloc::Global;
 use tried_trees::first_trees;
@@ -45,7 +46,8 @@ fn first_parting(
 ) -> Result<Option<Tree>, NoMemory>
     requires nodes { AllByRecursion (λ k. k < length left.now) order.now }
     requires others { AllByRecursion (λ k. k < length right.now) other.now }
-    ensures { IfOk result (λ found. IfSome found (PartsFrom (map program_of left.now) order.now (map program_of right.now) other.now)) }
+    ensures { IfOk result
+        (λ found. IfSome found (PartsFrom (map program_of left.now) order.now (map program_of right.now) other.now)) }
 {
     for tree in trees {
         tree.is_tree();
@@ -71,23 +73,20 @@ fn trees_of_both(
 /// Runs both first extensions from a few trees.
 pub(crate) fn try_runs(
     alloc: Global,
-    left: &[Program],
-    order: &Order,
-    right: &[Program],
-    other: &Order,
+    left: &Plan<'_>,
+    right: &Plan<'_>,
 ) -> Result<Option<Tree>, NoMemory>
-    requires left { length left.now ≡ order.now.count }
-    requires right { length right.now ≡ other.now.count }
-    ensures { IfOk result (λ found. IfSome found (FirstsPart (map program_of left.now) order.now (map program_of right.now) other.now)) }
+    ensures { IfOk result
+        (λ found. IfSome found (FirstsPart (meant_by left.now) left.now.order.now (meant_by right.now) right.now.order.now)) }
 {
-    let one = order.first_extension()?;
-    let second = other.first_extension()?;
-    let trees = trees_of_both(alloc, left, right)?;
+    let one = left.order.first_extension()?;
+    let second = right.order.first_extension()?;
+    let trees = trees_of_both(alloc, left.programs, right.programs)?;
     first_parting(
         alloc,
-        left,
+        left.programs,
         one.as_slice(),
-        right,
+        right.programs,
         second.as_slice(),
         trees.as_slice(),
     )

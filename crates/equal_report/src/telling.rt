@@ -4,6 +4,7 @@ ghost use Rattle.std.specs.Prelude.{◌≡◌, ◌++◌, ◌<◌, length, map, I
 ghost use Rattle.std.specs.List.{AllByRecursion};
 ghost use Rattle.rh_base.specs.Refused.{IfRefused};
 ghost use Rattle.fs_lang.specs.Meaning.{program_of};
+ghost use Rattle.plans.specs.Plans.{meant_by};
 ghost use Rattle.entry_report.specs.Lines.{first_lines};
 ghost use Rattle.entry_report.specs.Steps.{IsTellableFirst};
 ghost use Rattle.given_equal.specs.Sizes.{IsTooLargeJoined};
@@ -18,7 +19,7 @@ use equal_graphs::Compared;
 use fs_lang::Program;
 use given_equal::compare_from;
 use order_places::allowed_orders;
-use orders::Order;
+use plans::Plan;
 use question_terms::Terms;
 use rh_base::{Fault, NoMemory, Seq, Text};
 use std::alloc::Global;
@@ -154,35 +155,31 @@ fn report_of(
     notes: &[u8],
     other_notes: &[u8],
     names: &[Text],
-    left: &[Program],
-    order: &Order,
+    left: &Plan<'_>,
     others: &[Text],
-    right: &[Program],
-    other: &Order,
+    right: &Plan<'_>,
     budget: u64,
     compared: &Compared,
 ) -> Result<Report, NoMemory>
-    requires names { length names.now ≡ order.now.count }
-    requires left { length left.now ≡ order.now.count }
-    requires others { length others.now ≡ other.now.count }
-    requires right { length right.now ≡ other.now.count }
+    requires names { length names.now ≡ left.now.order.now.count }
+    requires others { length others.now ≡ right.now.order.now.count }
     requires names_told { IsTellable (length names.now) (length others.now) compared.now }
-    requires programs_told { IsTellable (length left.now) (length right.now) compared.now }
-    ensures { IfOk result (IsReportOf notes.now other_notes.now names.now (map program_of left.now) order.now others.now
-        (map program_of right.now) other.now budget compared.now) }
+    requires programs_told { IsTellable (length left.now.programs.now) (length right.now.programs.now) compared.now }
+    ensures { IfOk result (IsReportOf notes.now other_notes.now names.now (meant_by left.now) left.now.order.now others.now
+        (meant_by right.now) right.now.order.now budget compared.now) }
 {
     let status = status_of(compared);
-    let one = order.first_extension()?;
-    let second = other.first_extension()?;
+    let one = left.order.first_extension()?;
+    let second = right.order.first_extension()?;
     let text = lines_of(
         alloc,
         notes,
         other_notes,
         names,
-        left,
+        left.programs,
         one.as_slice(),
         others,
-        right,
+        right.programs,
         second.as_slice(),
         budget,
         compared,
@@ -198,26 +195,22 @@ pub fn told(
     notes: &[u8],
     other_notes: &[u8],
     names: &[Text],
-    left: &[Program],
-    order: &Order,
+    left: &Plan<'_>,
     others: &[Text],
-    right: &[Program],
-    other: &Order,
+    right: &Plan<'_>,
 ) -> Result<Report, Fault>
-    requires left { length left.now ≡ order.now.count }
-    requires names { length names.now ≡ order.now.count }
-    requires right { length right.now ≡ other.now.count }
-    requires others { length others.now ≡ other.now.count }
+    requires names { length names.now ≡ left.now.order.now.count }
+    requires others { length others.now ≡ right.now.order.now.count }
     ensures told { IfOk result
-        (IsComparedTold terms.now notes.now other_notes.now names.now (map program_of left.now) order.now others.now
-        (map program_of right.now) other.now) }
+        (IsComparedTold terms.now notes.now other_notes.now names.now (meant_by left.now) left.now.order.now others.now
+        (meant_by right.now) right.now.order.now) }
     // It is refused exactly where the two are too large to be compared.
     ensures refused { IfErr result
-        (λ e. IfRefused e (IsTooLargeJoined terms.now.limits terms.now.given (map program_of left.now)
-        (map program_of right.now))) }
+        (λ e. IfRefused e (IsTooLargeJoined terms.now.limits terms.now.given (meant_by left.now)
+        (meant_by right.now))) }
 {
     allowed_orders();
-    let compared = compare_from(alloc, left, order, right, other, terms)?;
+    let compared = compare_from(alloc, left, right, terms)?;
     let budget = terms.budget();
     let report = report_of(
         alloc,
@@ -225,10 +218,8 @@ pub fn told(
         other_notes,
         names,
         left,
-        order,
         others,
         right,
-        other,
         budget,
         &compared,
     )?;

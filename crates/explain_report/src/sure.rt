@@ -1,17 +1,17 @@
 //! What is told where all is well.
 
-ghost use Rattle.std.specs.Prelude.{◌≡◌, ◌++◌, length, map, IfOk};
-ghost use Rattle.fs_lang.specs.Meaning.{program_of};
+ghost use Rattle.std.specs.Prelude.{◌≡◌, ◌++◌, IfOk};
 ghost use Rattle.given_hosts.specs.Given.{IsDeterministicFrom, IsIdempotentFrom};
 ghost use Rattle.orders.specs.Relation.{Comes};
+ghost use Rattle.plans.specs.Plans.{meant_by};
 ghost use Rattle.verdict_report.specs.Lines.{last_line};
 ghost use Rattle.explain_report.specs.Told.{IsEnding, ExplainsSure};
 ghost use Rattle.explain_report.specs.Steps.{EndHolds};
 
 use crate::lines::sure_text;
 use explained_runs::nothing_line;
-use fs_lang::{Path, Program};
-use orders::Order;
+use fs_lang::Path;
+use plans::Plan;
 use rh_base::{NoMemory, Seq, Text};
 use std::alloc::Global;
 use verdict::Ends;
@@ -32,19 +32,17 @@ fn last_text(alloc: Global, end: &Ends, more: &[u8]) -> Result<Seq<u8>, NoMemory
 fn ending(
     alloc: Global,
     names: &[Text],
-    programs: &[Program],
-    order: &Order,
+    plan: &Plan<'_>,
     end: &Ends,
     given: &[Path],
 ) -> Result<Seq<u8>, NoMemory>
-    requires count { length programs.now ≡ order.now.count }
-    requires holds { EndHolds given.now (map program_of programs.now) order.now end.now }
-    ensures { IfOk result (IsEnding given.now names.now (map program_of programs.now) order.now) }
+    requires { EndHolds given.now (meant_by plan.now) plan.now.order.now end.now }
+    ensures { IfOk result (IsEnding given.now names.now (meant_by plan.now) plan.now.order.now) }
 {
     match end {
         Ends::From(_) => last_text(alloc, end, &[]),
         Ends::Never(_) => {
-            let line = nothing_line(alloc, names, programs, order, given)?;
+            let line = nothing_line(alloc, names, plan.programs, plan.order, given)?;
             last_text(alloc, end, line.as_slice())
         }
     }
@@ -55,18 +53,16 @@ pub fn explain_sure(
     alloc: Global,
     head: &[u8],
     names: &[Text],
-    programs: &[Program],
-    order: &Order,
+    plan: &Plan<'_>,
     end: &Ends,
     given: &[Path],
 ) -> Result<Report, NoMemory>
-    requires count { length programs.now ≡ order.now.count }
-    requires deterministic { IsDeterministicFrom given.now (map program_of programs.now) (Comes order.now) }
-    requires idempotent { IsIdempotentFrom given.now (map program_of programs.now) (Comes order.now) }
-    requires holds { EndHolds given.now (map program_of programs.now) order.now end.now }
-    ensures { IfOk result (ExplainsSure given.now names.now (map program_of programs.now) order.now head.now) }
+    requires deterministic { IsDeterministicFrom given.now (meant_by plan.now) (Comes plan.now.order.now) }
+    requires idempotent { IsIdempotentFrom given.now (meant_by plan.now) (Comes plan.now.order.now) }
+    requires holds { EndHolds given.now (meant_by plan.now) plan.now.order.now end.now }
+    ensures { IfOk result (ExplainsSure given.now names.now (meant_by plan.now) plan.now.order.now head.now) }
 {
-    let last = ending(alloc, names, programs, order, end, given)?;
+    let last = ending(alloc, names, plan, end, given)?;
     let text = sure_text(alloc, head, last.as_slice())?;
     Ok(Report { status: 0, text })
 }

@@ -1,8 +1,8 @@
 //! What is explained of programs and the order between them.
 
-ghost use Rattle.std.specs.Prelude.{◌≡◌, length, map, IfOk, IfErr};
+ghost use Rattle.std.specs.Prelude.{◌≡◌, length, IfOk, IfErr};
 ghost use Rattle.rh_base.specs.Refused.{IfRefused};
-ghost use Rattle.fs_lang.specs.Meaning.{program_of};
+ghost use Rattle.plans.specs.Plans.{meant_by};
 ghost use Rattle.question_terms.specs.Terms.{budget_of};
 ghost use Rattle.verdict.specs.Verdicts.{pruned_in};
 ghost use Rattle.given_verdict.specs.Limits.{IsTooLargeWith};
@@ -16,9 +16,8 @@ ghost use Rattle.explain_report.specs.Told.{Explains, IsExplained};
 use crate::lines::{noted_head, spent_text};
 use crate::parting::{explain_change, explain_difference};
 use crate::sure::explain_sure;
-use fs_lang::Program;
 use given_verdict::judge_from;
-use orders::Order;
+use plans::Plan;
 use question_terms::Terms;
 use rh_base::{Fault, NoMemory, Text};
 use std::alloc::Global;
@@ -50,29 +49,27 @@ fn explain(
     terms: &Terms,
     head: &[u8],
     names: &[Text],
-    programs: &[Program],
-    order: &Order,
+    plan: &Plan<'_>,
     judged: &Verdict,
 ) -> Result<Report, NoMemory>
-    requires count { length programs.now ≡ order.now.count }
-    requires places { IsTellable (length programs.now) judged.now }
-    requires verdict { IsVerdictFrom terms.now.given (map program_of programs.now) order.now (budget_of terms.now.conflicts) judged.now }
-    ensures { IfOk result (Explains terms.now names.now (map program_of programs.now) order.now head.now) }
+    requires places { IsTellable (length plan.now.programs.now) judged.now }
+    requires verdict { IsVerdictFrom terms.now.given (meant_by plan.now) plan.now.order.now (budget_of terms.now.conflicts) judged.now }
+    ensures { IfOk result (Explains terms.now names.now (meant_by plan.now) plan.now.order.now head.now) }
 {
     let given = terms.given.as_slice();
     match judged {
         Verdict::NotDeterministic { witness, .. } => {
-            explain_difference(alloc, head, names, programs, witness, given)
+            explain_difference(alloc, head, names, plan.programs, witness, given)
         }
         Verdict::Judged {
             second: Second::Same(_),
             ends,
             ..
-        } => explain_sure(alloc, head, names, programs, order, ends, given),
+        } => explain_sure(alloc, head, names, plan, ends, given),
         Verdict::Judged {
             second: Second::Differs(witness),
             ..
-        } => explain_change(alloc, head, names, programs, witness, given),
+        } => explain_change(alloc, head, names, plan.programs, witness, given),
         Verdict::Spent { asked, .. } => explain_spent(alloc, head, asked, terms.budget()),
     }
 }
@@ -84,17 +81,15 @@ pub fn told(
     terms: &Terms,
     notes: &[u8],
     names: &[Text],
-    programs: &[Program],
-    order: &Order,
+    plan: &Plan<'_>,
 ) -> Result<Report, Fault>
-    requires { length programs.now ≡ order.now.count }
-    ensures told { IfOk result (IsExplained terms.now notes.now names.now (map program_of programs.now) order.now) }
+    ensures told { IfOk result (IsExplained terms.now notes.now names.now (meant_by plan.now) plan.now.order.now) }
     // It is refused exactly where the graph is too large to be asked about.
-    ensures refused { IfErr result (λ e. IfRefused e (IsTooLargeWith terms.now.limits terms.now.given (map program_of programs.now))) }
+    ensures refused { IfErr result (λ e. IfRefused e (IsTooLargeWith terms.now.limits terms.now.given (meant_by plan.now))) }
 {
-    let judged = judge_from(alloc, programs, order, terms)?;
-    let head = noted_head(alloc, programs.len(), notes, pruned_in(&judged))?;
+    let judged = judge_from(alloc, plan, terms)?;
+    let head = noted_head(alloc, plan.programs.len(), notes, pruned_in(&judged))?;
     let shown = head.as_slice();
-    let report = explain(alloc, terms, shown, names, programs, order, &judged)?;
+    let report = explain(alloc, terms, shown, names, plan, &judged)?;
     Ok(report)
 }

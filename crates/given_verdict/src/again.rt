@@ -6,6 +6,7 @@ ghost use Rattle.fs_lang.specs.Meaning.{program_of};
 ghost use Rattle.given_hosts.specs.Given.{IsDeterministicFrom};
 ghost use Rattle.given_hosts.specs.Guard.{guarded, GoesFirst};
 ghost use Rattle.orders.specs.Relation.{comes};
+ghost use Rattle.plans.specs.Plans.{meant_by};
 ghost use Rattle.apart_groups.specs.Groups.{AreGroups};
 ghost use Rattle.given_verdict.specs.Second.{NeverChangedFrom, IsSecondProofFrom, IsSettledFrom, AnswersAgainFrom};
 
@@ -19,7 +20,7 @@ use fs_lang::{Path, Program};
 use given_hosts::{guarded_graphs, guards, second_runs};
 use guarded_graph::{Guarded, with_guard};
 use order_extensions::has_first_extension;
-use orders::Order;
+use plans::Plan;
 use proof_check::Verified;
 use rh_base::{NoMemory, Seq};
 use second_runs::same_in_groups;
@@ -29,27 +30,25 @@ use std::alloc::Global;
 /// removes a given folder: all orders then end alike from what the first run left, too.
 fn ask_on(
     alloc: Global,
-    programs: &[Program],
-    order: &Order,
+    plan: &Plan<'_>,
     given: &[Path],
     budget: u64,
     same: Verified,
 ) -> Result<Answer, NoMemory>
-    requires count { length programs.now ≡ order.now.count }
     requires budget { 1 ≤ budget }
-    requires deterministic { IsDeterministicFrom given.now (map program_of programs.now) (Told (comes order.now)) }
-    requires never { NeverChangedFrom given.now (map program_of programs.now) order.now }
-    requires same { IsSecondProofFrom given.now (map program_of programs.now) order.now same.formula }
-    ensures { IfOk result (AnswersAgainFrom given.now (map program_of programs.now) order.now budget) }
+    requires deterministic { IsDeterministicFrom given.now (meant_by plan.now) (Told (comes plan.now.order.now)) }
+    requires never { NeverChangedFrom given.now (meant_by plan.now) plan.now.order.now }
+    requires same { IsSecondProofFrom given.now (meant_by plan.now) plan.now.order.now same.formula }
+    ensures { IfOk result (AnswersAgainFrom given.now (meant_by plan.now) plan.now.order.now budget) }
 {
     second_runs();
-    are_proper(programs);
+    are_proper(plan.programs);
     // The first extension stands for all orders.
-    has_first_extension(order);
-    if all_keep(programs, given) {
+    has_first_extension(plan.order);
+    if all_keep(plan.programs, given) {
         return Ok(Answer::Refuted(same));
     }
-    ask_others(alloc, programs, order, given, budget, same)
+    ask_others(alloc, plan, given, budget, same)
 }
 
 /// The programs and the guard in groups. Where no program removes a given folder the guard does nothing behind any of them, so that
@@ -65,12 +64,15 @@ fn groups_from(
     requires first { (before : ℕ → ℕ → Bool) × GoesFirst (length (map program_of programs.now)) before (comes graph.now.order) }
     ensures { IfOk result (AreGroups (map program_of graph.now.programs) (comes graph.now.order)) }
 {
-    let all = graph.programs.as_slice();
+    let whole = Plan {
+        programs: graph.programs.as_slice(),
+        order: &graph.order,
+    };
     if !all_keep(programs, given) {
-        return groups_of(alloc, all, &graph.order);
+        return groups_of(alloc, &whole);
     }
     let guard = graph.order.count() - 1;
-    let groups = groups_beside(alloc, all, &graph.order, guard)?;
+    let groups = groups_beside(alloc, &whole, guard)?;
     Ok(groups)
 }
 
@@ -78,27 +80,23 @@ fn groups_from(
 /// stand ahead of the second run too: where that ends as the first did, the given folders stand still.
 fn same_from_groups(
     alloc: Global,
-    programs: &[Program],
-    order: &Order,
+    plan: &Plan<'_>,
     given: &[Path],
     budget: u64,
 ) -> Result<Option<Verified>, NoMemory>
-    requires count { length programs.now ≡ order.now.count }
     requires budget { 1 ≤ budget }
-    requires deterministic { IsDeterministicFrom given.now (map program_of programs.now) (Told (comes order.now)) }
-    ensures { IfOk result (λ found. IfSome found (λ v. IsSettledFrom given.now (map program_of programs.now) order.now v.formula)) }
+    requires deterministic { IsDeterministicFrom given.now (meant_by plan.now) (Told (comes plan.now.order.now)) }
+    ensures { IfOk result (λ found. IfSome found (λ v. IsSettledFrom given.now (meant_by plan.now) plan.now.order.now v.formula)) }
 {
     guards();
     guarded_graphs();
-    let graph = with_guard(alloc, programs, order, given)?;
-    let groups = groups_from(alloc, programs, &graph, given)?;
-    let found = same_in_groups(
-        alloc,
-        graph.programs.as_slice(),
-        &graph.order,
-        groups.as_slice(),
-        budget,
-    )?;
+    let graph = with_guard(alloc, plan, given)?;
+    let groups = groups_from(alloc, plan.programs, &graph, given)?;
+    let whole = Plan {
+        programs: graph.programs.as_slice(),
+        order: &graph.order,
+    };
+    let found = same_in_groups(alloc, &whole, groups.as_slice(), budget)?;
     Ok(found)
 }
 
@@ -106,23 +104,21 @@ fn same_from_groups(
 /// order.
 pub(crate) fn ask_again_from(
     alloc: Global,
-    programs: &[Program],
-    order: &Order,
+    plan: &Plan<'_>,
     given: &[Path],
     budget: u64,
 ) -> Result<Answer, NoMemory>
-    requires count { length programs.now ≡ order.now.count }
     requires budget { 1 ≤ budget }
     requires given { given.now ≢ [] }
-    requires deterministic { IsDeterministicFrom given.now (map program_of programs.now) (Told (comes order.now)) }
-    ensures { IfOk result (AnswersAgainFrom given.now (map program_of programs.now) order.now budget) }
+    requires deterministic { IsDeterministicFrom given.now (meant_by plan.now) (Told (comes plan.now.order.now)) }
+    ensures { IfOk result (AnswersAgainFrom given.now (meant_by plan.now) plan.now.order.now budget) }
 {
-    if let Some(same) = same_from_groups(alloc, programs, order, given, budget)? {
+    if let Some(same) = same_from_groups(alloc, plan, given, budget)? {
         return Ok(Answer::Refuted(same));
     }
-    let found = ask_second_from(alloc, programs, order, given, budget)?;
+    let found = ask_second_from(alloc, plan, given, budget)?;
     match found {
-        Answer::Refuted(same) => ask_on(alloc, programs, order, given, budget, same),
+        Answer::Refuted(same) => ask_on(alloc, plan, given, budget, same),
         Answer::Shown(witness) => Ok(Answer::Shown(witness)),
         Answer::Spent(cnf, log) => Ok(Answer::Spent(cnf, log)),
     }

@@ -9,6 +9,7 @@ ghost use Rattle.given_hosts.specs.Given.{IsDeterministicFrom};
 ghost use Rattle.given_hosts.specs.Guard.{first_run};
 ghost use Rattle.sure_folders.specs.Pruning.{chosen};
 ghost use Rattle.orders.specs.Relation.{comes};
+ghost use Rattle.plans.specs.Plans.{meant_by};
 ghost use Rattle.proof_check.specs.Refuted.{HasNoModel};
 ghost use Rattle.given_verdict.specs.Second.{NeverChangedFrom, IsSecondRunFrom, AnswersAgainFrom};
 ghost use Rattle.given_verdict.specs.Behind.{IsJudgedBehind, IsDifferenceBehind, EndsDifferently, IsDifferentOf};
@@ -22,7 +23,7 @@ use given_hosts::{guards, second_runs};
 use guarded_graph::{guard_of, with_first};
 use kept_graph::{end_alike, program_at};
 use order_encode::Witness;
-use orders::Order;
+use plans::Plan;
 use proof_check::Verified;
 use rh_base::{NoMemory, Seq};
 use std::alloc::Global;
@@ -63,19 +64,21 @@ fn run_of(
 /// Asks whether all orders end alike behind a run in the first extension.
 fn ask_behind(
     alloc: Global,
-    programs: &[Program],
-    order: &Order,
+    plan: &Plan<'_>,
     given: &[Path],
     budget: u64,
 ) -> Result<First, NoMemory>
-    requires count { length programs.now ≡ order.now.count }
-    requires budget { 1 ≤ budget }
-    ensures { IfOk result (IsJudgedBehind given.now (map program_of programs.now) order.now budget) }
+    requires { 1 ≤ budget }
+    ensures { IfOk result (IsJudgedBehind given.now (meant_by plan.now) plan.now.order.now budget) }
 {
-    let first = order.first_extension()?;
-    let run = run_of(alloc, programs, given, first.as_slice())?;
-    let graph = with_first(alloc, programs, order, run)?;
-    let answered = judge_any(alloc, graph.programs.as_slice(), &graph.order, budget)?;
+    let first = plan.order.first_extension()?;
+    let run = run_of(alloc, plan.programs, given, first.as_slice())?;
+    let graph = with_first(alloc, plan, run)?;
+    let asked = Plan {
+        programs: graph.programs.as_slice(),
+        order: &graph.order,
+    };
+    let answered = judge_any(alloc, &asked, budget)?;
     Ok(answered)
 }
 
@@ -116,15 +119,13 @@ fn different_of(
 /// The second run that changes something, where two orders end differently behind a first run.
 fn changed_run(
     alloc: Global,
-    programs: &[Program],
-    order: &Order,
+    plan: &Plan<'_>,
     given: &[Path],
     witness: Witness,
 ) -> Result<Witness, NoMemory>
-    requires count { length programs.now ≡ order.now.count }
-    requires deterministic { IsDeterministicFrom given.now (map program_of programs.now) (Told (comes order.now)) }
-    requires differs { IsDifferenceBehind given.now (map program_of programs.now) order.now witness }
-    ensures { IfOk result (IsSecondRunFrom given.now (map program_of programs.now) order.now) }
+    requires deterministic { IsDeterministicFrom given.now (meant_by plan.now) (Told (comes plan.now.order.now)) }
+    requires differs { IsDifferenceBehind given.now (meant_by plan.now) plan.now.order.now witness }
+    ensures { IfOk result (IsSecondRunFrom given.now (meant_by plan.now) plan.now.order.now) }
 {
     guards();
     second_runs();
@@ -132,7 +133,7 @@ fn changed_run(
         Witness::Orders { tree, left, right } => {
             let first = rest_of(alloc, left.as_slice())?;
             let second = rest_of(alloc, right.as_slice())?;
-            different_of(alloc, programs, tree, first, second)
+            different_of(alloc, plan.programs, tree, first, second)
         }
         Witness::Twice { .. } | Witness::Ends { .. } => unreachable!(),
     }
@@ -173,25 +174,23 @@ fn proof_of(alloc: Global, same: Verified, sure: Sure) -> Result<Verified, NoMem
 /// formula shows which was refuted.
 pub(crate) fn ask_others(
     alloc: Global,
-    programs: &[Program],
-    order: &Order,
+    plan: &Plan<'_>,
     given: &[Path],
     budget: u64,
     same: Verified,
 ) -> Result<Answer, NoMemory>
-    requires count { length programs.now ≡ order.now.count }
     requires budget { 1 ≤ budget }
-    requires deterministic { IsDeterministicFrom given.now (map program_of programs.now) (Told (comes order.now)) }
-    requires never { NeverChangedFrom given.now (map program_of programs.now) order.now }
+    requires deterministic { IsDeterministicFrom given.now (meant_by plan.now) (Told (comes plan.now.order.now)) }
+    requires never { NeverChangedFrom given.now (meant_by plan.now) plan.now.order.now }
     requires same { HasNoModel same.formula }
-    ensures { IfOk result (AnswersAgainFrom given.now (map program_of programs.now) order.now budget) }
+    ensures { IfOk result (AnswersAgainFrom given.now (meant_by plan.now) plan.now.order.now budget) }
 {
     guards();
     second_runs();
-    match ask_behind(alloc, programs, order, given, budget)? {
+    match ask_behind(alloc, plan, given, budget)? {
         First::Sure { sure, .. } => Ok(Answer::Refuted(proof_of(alloc, same, sure)?)),
         First::Differs { witness, .. } => Ok(Answer::Shown(changed_run(
-            alloc, programs, order, given, witness,
+            alloc, plan, given, witness,
         )?)),
         First::Spent { cnf, log, .. } => Ok(Answer::Spent(cnf, log)),
     }

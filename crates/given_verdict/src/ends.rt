@@ -1,19 +1,20 @@
 //! Whether the graph succeeds from a tree in which given folders stand.
 
-ghost use Rattle.std.specs.Prelude.{◌≡◌, ◌≢◌, ◌≤◌, [], length, map, IfOk};
+ghost use Rattle.std.specs.Prelude.{◌≢◌, ◌≤◌, [], IfOk};
 ghost use Rattle.fs_semantics.specs.Orders.{Told};
-ghost use Rattle.fs_lang.specs.Meaning.{program_of};
 ghost use Rattle.given_hosts.specs.Given.{IsDeterministicFrom};
 ghost use Rattle.orders.specs.Relation.{comes};
+ghost use Rattle.plans.specs.Plans.{meant_by};
 ghost use Rattle.given_verdict.specs.Ends.{AnswersEndFrom, IsFirstRun, IsRunOf, HasOneOrder};
 
 use answering::Answer;
-use fs_lang::{Path, Program, Tree};
+use fs_lang::{Path, Tree};
 use given_hosts::{guarded_graphs, guards};
 use guarded_graph::with_guard;
 use order_encode::Witness;
 use order_extensions::has_first_extension;
 use orders::Order;
+use plans::Plan;
 use rh_base::NoMemory;
 use std::alloc::Global;
 use success::ask_end;
@@ -45,27 +46,29 @@ pub fn run_of(alloc: Global, order: &Order, witness: &Witness) -> Result<Witness
 /// Asks whether the graph succeeds: the question of the graph with the guard in front. The order that is told has no guard.
 pub(crate) fn ask_end_from(
     alloc: Global,
-    programs: &[Program],
-    order: &Order,
+    plan: &Plan<'_>,
     given: &[Path],
     budget: u64,
 ) -> Result<Answer, NoMemory>
-    requires count { length programs.now ≡ order.now.count }
     requires budget { 1 ≤ budget }
     requires given { given.now ≢ [] }
-    requires deterministic { IsDeterministicFrom given.now (map program_of programs.now) (Told (comes order.now)) }
-    ensures { IfOk result (AnswersEndFrom given.now (map program_of programs.now) order.now budget) }
+    requires deterministic { IsDeterministicFrom given.now (meant_by plan.now) (Told (comes plan.now.order.now)) }
+    ensures { IfOk result (AnswersEndFrom given.now (meant_by plan.now) plan.now.order.now budget) }
 {
     guards();
     guarded_graphs();
-    let graph = with_guard(alloc, programs, order, given)?;
+    let graph = with_guard(alloc, plan, given)?;
     // First extensions stand for all orders.
-    has_first_extension(order);
+    has_first_extension(plan.order);
     has_first_extension(&graph.order);
-    let found = ask_end(alloc, graph.programs.as_slice(), &graph.order, budget)?;
+    let asked = Plan {
+        programs: graph.programs.as_slice(),
+        order: &graph.order,
+    };
+    let found = ask_end(alloc, &asked, budget)?;
     match found {
         Answer::Refuted(verified) => Ok(Answer::Refuted(verified)),
-        Answer::Shown(witness) => Ok(Answer::Shown(run_of(alloc, order, &witness)?)),
+        Answer::Shown(witness) => Ok(Answer::Shown(run_of(alloc, plan.order, &witness)?)),
         Answer::Spent(cnf, log) => Ok(Answer::Spent(cnf, log)),
     }
 }

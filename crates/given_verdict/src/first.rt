@@ -1,7 +1,7 @@
 //! Whether a graph is deterministic from the trees in which given folders stand.
 
-ghost use Rattle.std.specs.Prelude.{◌≡◌, ◌≢◌, ◌≤◌, [], length, map, drop, IfOk};
-ghost use Rattle.fs_lang.specs.Meaning.{program_of};
+ghost use Rattle.std.specs.Prelude.{◌≡◌, ◌≢◌, ◌≤◌, [], drop, IfOk};
+ghost use Rattle.plans.specs.Plans.{meant_by};
 ghost use Rattle.determinism.specs.First.{IfDiffers};
 ghost use Rattle.determinism.specs.Answers.{HasTwoOrders};
 ghost use Rattle.determinism.specs.declared.first.First.TheVariants as variants;
@@ -9,11 +9,11 @@ ghost use Rattle.given_verdict.specs.First.{IsJudgedFrom, IsUnguarded, IsAnswerW
 
 use commute_prune::pruning;
 use determinism::{First, judge_any};
-use fs_lang::{Path, Program};
+use fs_lang::Path;
 use given_hosts::{guarded_graphs, guards};
 use guarded_graph::{guard_is_pruned, with_guard};
 use order_encode::Witness;
-use orders::Order;
+use plans::Plan;
 use rh_base::{NoMemory, Seq};
 use std::alloc::Global;
 
@@ -77,21 +77,23 @@ pub fn answer_without(alloc: Global, answered: First) -> Result<First, NoMemory>
 /// Asks about the graph with the guard in front. What pruning keeps is what it keeps of the programs, whatever is given.
 pub(crate) fn first_from(
     alloc: Global,
-    programs: &[Program],
-    order: &Order,
+    plan: &Plan<'_>,
     given: &[Path],
     budget: u64,
 ) -> Result<First, NoMemory>
-    requires count { length programs.now ≡ order.now.count }
     requires budget { 1 ≤ budget }
     requires given { given.now ≢ [] }
-    ensures { IfOk result (IsJudgedFrom given.now (map program_of programs.now) order.now budget) }
+    ensures { IfOk result (IsJudgedFrom given.now (meant_by plan.now) plan.now.order.now budget) }
 {
     pruning();
     guards();
     guarded_graphs();
     guard_is_pruned();
-    let graph = with_guard(alloc, programs, order, given)?;
-    let answered = judge_any(alloc, graph.programs.as_slice(), &graph.order, budget)?;
+    let graph = with_guard(alloc, plan, given)?;
+    let asked = Plan {
+        programs: graph.programs.as_slice(),
+        order: &graph.order,
+    };
+    let answered = judge_any(alloc, &asked, budget)?;
     answer_without(alloc, answered)
 }

@@ -1,11 +1,11 @@
 //! Answering the three questions.
 
-ghost use Rattle.std.specs.Prelude.{◌≡◌, ◌≢◌, ◌≤◌, [], length, map, IfOk, IfErr};
+ghost use Rattle.std.specs.Prelude.{◌≢◌, ◌≤◌, [], IfOk, IfErr};
 ghost use Rattle.rh_base.specs.Refused.{IfRefused};
 ghost use Rattle.fs_semantics.specs.Orders.{Told};
-ghost use Rattle.fs_lang.specs.Meaning.{program_of};
 ghost use Rattle.given_hosts.specs.Given.{IsIdempotentFrom};
 ghost use Rattle.orders.specs.Relation.{comes};
+ghost use Rattle.plans.specs.Plans.{meant_by};
 ghost use Rattle.determinism.specs.declared.first.First.TheVariants as first;
 ghost use Rattle.question_terms.specs.Terms.{budget_of};
 ghost use Rattle.given_verdict.specs.Limits.{HasFewPathsWith, IsLightWith, IsTooLargeWith};
@@ -19,9 +19,9 @@ use crate::first::first_from;
 use crate::limits::check_size_with;
 use answering::Answer;
 use determinism::{First, Sure};
-use fs_lang::{Path, Program};
+use fs_lang::Path;
 use given_hosts::none_given;
-use orders::Order;
+use plans::Plan;
 use proof_check::Verified;
 use question_terms::Terms;
 use rh_base::{Fault, NoMemory, Seq};
@@ -31,23 +31,21 @@ use verdict::{Asked, Ends, Second, Verdict, judged, order_proofs, two_proofs};
 /// Asks whether the graph succeeds, where no second run changes anything.
 fn judge_same(
     alloc: Global,
-    programs: &[Program],
-    order: &Order,
+    plan: &Plan<'_>,
     given: &[Path],
     budget: u64,
     pruned: u32,
     sure: Sure,
     same: Verified,
 ) -> Result<Verdict, NoMemory>
-    requires count { length programs.now ≡ order.now.count }
     requires budget { 1 ≤ budget }
     requires given { given.now ≢ [] }
-    requires judged { IsJudgedFrom given.now (map program_of programs.now) order.now budget (first.Sure pruned sure) }
-    requires idempotent { IsIdempotentFrom given.now (map program_of programs.now) (Told (comes order.now)) }
-    requires same { IsSecondProofFrom given.now (map program_of programs.now) order.now same.formula }
-    ensures { IfOk result (IsVerdictFrom given.now (map program_of programs.now) order.now budget) }
+    requires judged { IsJudgedFrom given.now (meant_by plan.now) plan.now.order.now budget (first.Sure pruned sure) }
+    requires idempotent { IsIdempotentFrom given.now (meant_by plan.now) (Told (comes plan.now.order.now)) }
+    requires same { IsSecondProofFrom given.now (meant_by plan.now) plan.now.order.now same.formula }
+    ensures { IfOk result (IsVerdictFrom given.now (meant_by plan.now) plan.now.order.now budget) }
 {
-    let end = ask_end_from(alloc, programs, order, given, budget)?;
+    let end = ask_end_from(alloc, plan, given, budget)?;
     match end {
         Answer::Shown(witness) => Ok(Verdict::Judged {
             pruned,
@@ -77,26 +75,22 @@ fn judge_same(
 /// Asks about second runs of a deterministic graph.
 fn judge_sure(
     alloc: Global,
-    programs: &[Program],
-    order: &Order,
+    plan: &Plan<'_>,
     given: &[Path],
     budget: u64,
     pruned: u32,
     sure: Sure,
 ) -> Result<Verdict, NoMemory>
-    requires count { length programs.now ≡ order.now.count }
     requires budget { 1 ≤ budget }
     requires given { given.now ≢ [] }
-    requires judged { IsJudgedFrom given.now (map program_of programs.now) order.now budget (first.Sure pruned sure) }
-    ensures { IfOk result (IsVerdictFrom given.now (map program_of programs.now) order.now budget) }
+    requires judged { IsJudgedFrom given.now (meant_by plan.now) plan.now.order.now budget (first.Sure pruned sure) }
+    ensures { IfOk result (IsVerdictFrom given.now (meant_by plan.now) plan.now.order.now budget) }
 {
-    let again = ask_again_from(alloc, programs, order, given, budget)?;
+    let again = ask_again_from(alloc, plan, given, budget)?;
     match again {
-        Answer::Refuted(same) => judge_same(
-            alloc, programs, order, given, budget, pruned, sure, same,
-        ),
+        Answer::Refuted(same) => judge_same(alloc, plan, given, budget, pruned, sure, same),
         Answer::Shown(witness) => {
-            let end = run_of(alloc, order, &witness)?;
+            let end = run_of(alloc, plan.order, &witness)?;
             Ok(Verdict::Judged {
                 pruned,
                 sure,
@@ -120,22 +114,18 @@ fn judge_sure(
 /// Goes on from the answer to the first question.
 fn judge_on(
     alloc: Global,
-    programs: &[Program],
-    order: &Order,
+    plan: &Plan<'_>,
     given: &[Path],
     budget: u64,
     answered: First,
 ) -> Result<Verdict, NoMemory>
-    requires count { length programs.now ≡ order.now.count }
     requires budget { 1 ≤ budget }
     requires given { given.now ≢ [] }
-    requires judged { IsJudgedFrom given.now (map program_of programs.now) order.now budget answered }
-    ensures { IfOk result (IsVerdictFrom given.now (map program_of programs.now) order.now budget) }
+    requires judged { IsJudgedFrom given.now (meant_by plan.now) plan.now.order.now budget answered }
+    ensures { IfOk result (IsVerdictFrom given.now (meant_by plan.now) plan.now.order.now budget) }
 {
     match answered {
-        First::Sure { pruned, sure } => {
-            judge_sure(alloc, programs, order, given, budget, pruned, sure)
-        }
+        First::Sure { pruned, sure } => { judge_sure(alloc, plan, given, budget, pruned, sure) }
         First::Differs { pruned, witness } => Ok(Verdict::NotDeterministic { pruned, witness }),
         First::Spent { pruned, cnf, log } => Ok(Verdict::Spent {
             pruned,
@@ -150,43 +140,35 @@ fn judge_on(
 /// The verdict on a graph, however large it is. Where no folder is given the graph itself is asked.
 fn judged_from(
     alloc: Global,
-    programs: &[Program],
-    order: &Order,
+    plan: &Plan<'_>,
     given: &[Path],
     budget: u64,
 ) -> Result<Verdict, NoMemory>
-    requires count { length programs.now ≡ order.now.count }
-    requires budget { 1 ≤ budget }
-    ensures { IfOk result (IsVerdictFrom given.now (map program_of programs.now) order.now budget) }
+    requires { 1 ≤ budget }
+    ensures { IfOk result (IsVerdictFrom given.now (meant_by plan.now) plan.now.order.now budget) }
 {
     none_given();
     if given.is_empty() {
-        return judged(alloc, programs, order, budget);
+        return judged(alloc, plan, budget);
     }
-    let answered = first_from(alloc, programs, order, given, budget)?;
-    judge_on(alloc, programs, order, given, budget, answered)
+    let answered = first_from(alloc, plan, given, budget)?;
+    judge_on(alloc, plan, given, budget, answered)
 }
 
 /// Whether the programs are deterministic from the trees in which the given folders stand; where they are, whether a second run
 /// changes anything, and whether they succeed from such a tree. Each question has the whole budget. The second run begins in what
 /// the first left, where a given folder may be missing.
-pub fn judge_from(
-    alloc: Global,
-    programs: &[Program],
-    order: &Order,
-    terms: &Terms,
-) -> Result<Verdict, Fault>
-    requires count { length programs.now ≡ order.now.count }
+pub fn judge_from(alloc: Global, plan: &Plan<'_>, terms: &Terms) -> Result<Verdict, Fault>
     // It is refused exactly where the graph is too large to be asked about.
-    ensures paths { IfOk result (λ judged. HasFewPathsWith terms.now.limits terms.now.given (map program_of programs.now)) }
-    ensures weight { IfOk result (λ judged. IsLightWith terms.now.limits (map program_of programs.now)) }
-    ensures refused { IfErr result (λ e. IfRefused e (IsTooLargeWith terms.now.limits terms.now.given (map program_of programs.now))) }
-    ensures only { HasFewPathsWith terms.now.limits terms.now.given (map program_of programs.now)
-        → IsLightWith terms.now.limits (map program_of programs.now) → IfErr result (λ e. IfRefused e (λ r. ⊥)) }
-    ensures judged { IfOk result (IsVerdictFrom terms.now.given (map program_of programs.now) order.now (budget_of terms.now.conflicts)) }
+    ensures paths { IfOk result (λ judged. HasFewPathsWith terms.now.limits terms.now.given (meant_by plan.now)) }
+    ensures weight { IfOk result (λ judged. IsLightWith terms.now.limits (meant_by plan.now)) }
+    ensures refused { IfErr result (λ e. IfRefused e (IsTooLargeWith terms.now.limits terms.now.given (meant_by plan.now))) }
+    ensures only { HasFewPathsWith terms.now.limits terms.now.given (meant_by plan.now)
+        → IsLightWith terms.now.limits (meant_by plan.now) → IfErr result (λ e. IfRefused e (λ r. ⊥)) }
+    ensures judged { IfOk result (IsVerdictFrom terms.now.given (meant_by plan.now) plan.now.order.now (budget_of terms.now.conflicts)) }
 {
     let given = terms.given.as_slice();
-    check_size_with(alloc, programs, given, terms.limits)?;
-    let verdict = judged_from(alloc, programs, order, given, terms.budget())?;
+    check_size_with(alloc, plan.programs, given, terms.limits)?;
+    let verdict = judged_from(alloc, plan, given, terms.budget())?;
     Ok(verdict)
 }

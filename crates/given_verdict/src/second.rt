@@ -1,8 +1,8 @@
 //! Whether a second run changes anything, where the first begins in a tree in which given folders stand. The guard stands ahead of
 //! the first run alone: the second begins in what the first left.
 
-ghost use Rattle.std.specs.Prelude.{◌≡◌, ◌≢◌, ◌≤◌, [], ◌∷◌, ◌++◌, length, map, IfOk, OnOk};
-ghost use Rattle.fs_lang.specs.Meaning.{program_of};
+ghost use Rattle.std.specs.Prelude.{◌≡◌, ◌≢◌, ◌≤◌, [], ◌∷◌, ◌++◌, IfOk, OnOk};
+ghost use Rattle.plans.specs.Plans.{meant_by};
 ghost use Rattle.proof_check.specs.Refuted.{HasNoModel};
 ghost use Rattle.order_encode.specs.Asked.{CanShow};
 ghost use Rattle.order_encode.specs.declared.witness.Witness.{Witness};
@@ -11,12 +11,13 @@ ghost use Rattle.given_verdict.specs.Second.{StatesSecondFrom, NeverChangedFrom,
 
 use answering::{Answer, answer_to};
 use finite_domain::{domains, shadows};
-use fs_lang::{Path, Program};
+use fs_lang::Path;
 use guarded_graph::guarded_programs;
 use order_encode::{Question, Witness, ask_parting};
 use order_places::allowed_orders;
 use orders::Order;
 use path_domain::domain;
+use plans::Plan;
 use rh_base::{NoMemory, Seq};
 use std::alloc::Global;
 
@@ -49,24 +50,18 @@ fn two_runs(alloc: Global, guard: u32, first: &[u32]) -> Result<Seq<u32>, NoMemo
 }
 
 /// The question whether one run ends differently than two: where it ends in a tree that the second doesn't leave as it is.
-fn second_question(
-    alloc: Global,
-    programs: &[Program],
-    order: &Order,
-    given: &[Path],
-) -> Result<Question, NoMemory>
-    requires count { length programs.now ≡ order.now.count }
-    requires given { given.now ≢ [] }
-    ensures states { IfOk result (λ q. StatesSecondFrom given.now (map program_of programs.now) order.now q.formula) }
-    ensures never { IfOk result (λ q. HasNoModel q.formula → NeverChangedFrom given.now (map program_of programs.now) order.now) }
-    ensures models { IfOk result (λ q. (w : Witness) → CanShow q w → IsChangeTree given.now (map program_of programs.now) order.now w) }
+fn second_question(alloc: Global, plan: &Plan<'_>, given: &[Path]) -> Result<Question, NoMemory>
+    requires { given.now ≢ [] }
+    ensures states { IfOk result (λ q. StatesSecondFrom given.now (meant_by plan.now) plan.now.order.now q.formula) }
+    ensures never { IfOk result (λ q. HasNoModel q.formula → NeverChangedFrom given.now (meant_by plan.now) plan.now.order.now) }
+    ensures models { IfOk result (λ q. (w : Witness) → CanShow q w → IsChangeTree given.now (meant_by plan.now) plan.now.order.now w) }
 {
     domains();
     shadows();
     allowed_orders();
-    let first = order.first_extension()?;
-    let all = guarded_programs(alloc, programs, given)?;
-    let guard = order.count();
+    let first = plan.order.first_extension()?;
+    let all = guarded_programs(alloc, plan.programs, given)?;
+    let guard = plan.order.count();
     let once = one_run(alloc, guard, first.as_slice())?;
     let twice = two_runs(alloc, guard, first.as_slice())?;
     let d = domain(alloc, all.as_slice())?;
@@ -95,21 +90,14 @@ fn with_first(order: &Order, witness: Witness) -> Result<Witness, NoMemory>
 }
 
 /// Asks it.
-fn ask_runs(
-    alloc: Global,
-    programs: &[Program],
-    order: &Order,
-    given: &[Path],
-    budget: u64,
-) -> Result<Answer, NoMemory>
-    requires count { length programs.now ≡ order.now.count }
+fn ask_runs(alloc: Global, plan: &Plan<'_>, given: &[Path], budget: u64) -> Result<Answer, NoMemory>
     requires budget { 1 ≤ budget }
     requires given { given.now ≢ [] }
-    ensures { IfOk result (AnswersBy (StatesSecondFrom given.now (map program_of programs.now) order.now)
-        (NeverChangedFrom given.now (map program_of programs.now) order.now)
-        (IsChangeTree given.now (map program_of programs.now) order.now) budget) }
+    ensures { IfOk result (AnswersBy (StatesSecondFrom given.now (meant_by plan.now) plan.now.order.now)
+        (NeverChangedFrom given.now (meant_by plan.now) plan.now.order.now)
+        (IsChangeTree given.now (meant_by plan.now) plan.now.order.now) budget) }
 {
-    let question = second_question(alloc, programs, order, given)?;
+    let question = second_question(alloc, plan, given)?;
     answer_to(alloc, question, budget)
 }
 
@@ -117,20 +105,18 @@ fn ask_runs(
 /// stand.
 pub(crate) fn ask_second_from(
     alloc: Global,
-    programs: &[Program],
-    order: &Order,
+    plan: &Plan<'_>,
     given: &[Path],
     budget: u64,
 ) -> Result<Answer, NoMemory>
-    requires count { length programs.now ≡ order.now.count }
     requires budget { 1 ≤ budget }
     requires given { given.now ≢ [] }
-    ensures { IfOk result (AnswersSecondFrom given.now (map program_of programs.now) order.now budget) }
+    ensures { IfOk result (AnswersSecondFrom given.now (meant_by plan.now) plan.now.order.now budget) }
 {
     allowed_orders();
-    let found = ask_runs(alloc, programs, order, given, budget)?;
+    let found = ask_runs(alloc, plan, given, budget)?;
     match found {
-        Answer::Shown(witness) => Ok(Answer::Shown(with_first(order, witness)?)),
+        Answer::Shown(witness) => Ok(Answer::Shown(with_first(plan.order, witness)?)),
         Answer::Refuted(verified) => Ok(Answer::Refuted(verified)),
         Answer::Spent(cnf, log) => Ok(Answer::Spent(cnf, log)),
     }

@@ -4,11 +4,13 @@ ghost use Rattle.std.specs.Prelude.{◌≡◌, ◌+◌, ◌∷◌, ◌++◌, [],
 ghost use Rattle.fs_semantics.specs.Programs.{IsDir, Id, Err, Mkdir, If};
 ghost use Rattle.fs_lang.specs.Meaning.{test_of, program_of};
 ghost use Rattle.orders.specs.Relation.{comes};
+ghost use Rattle.plans.specs.Plans.{meant_by};
 ghost use Rattle.given_hosts.specs.Guard.{need, guard, guarded, guard_before};
 
 use crate::pairs::order_behind;
 use fs_lang::{Path, Program, Test};
 use orders::Order;
+use plans::Plan;
 use rh_base::{Boxed, NoMemory, Seq};
 use std::alloc::Global;
 
@@ -118,21 +120,15 @@ pub fn guarded_programs(
 }
 
 /// The graph with a program in front, as the one with the next number.
-pub fn with_first(
-    alloc: Global,
-    programs: &[Program],
-    order: &Order,
-    first: Program,
-) -> Result<Guarded, NoMemory>
-    requires { length programs.now ≡ order.now.count }
-    ensures programs { IfOk result (λ g. map program_of g.programs ≡ map program_of programs.now ++ program_of first ∷ []) }
+pub fn with_first(alloc: Global, plan: &Plan<'_>, first: Program) -> Result<Guarded, NoMemory>
+    ensures programs { IfOk result (λ g. map program_of g.programs ≡ meant_by plan.now ++ program_of first ∷ []) }
     ensures count { IfOk result (λ g. length g.programs ≡ g.order.count) }
-    ensures more { IfOk result (λ g. g.order.count ≡ order.now.count + 1) }
-    ensures order { IfOk result (λ g. comes g.order ≡ guard_before order.now.count (comes order.now)) }
+    ensures more { IfOk result (λ g. g.order.count ≡ plan.now.order.now.count + 1) }
+    ensures order { IfOk result (λ g. comes g.order ≡ guard_before plan.now.order.now.count (comes plan.now.order.now)) }
 {
     let last = Boxed::new(alloc, first)?;
-    let all = with_last(alloc, programs, last)?;
-    let behind = order_behind(alloc, order)?;
+    let all = with_last(alloc, plan.programs, last)?;
+    let behind = order_behind(alloc, plan.order)?;
     Ok(Guarded {
         programs: all,
         order: behind,
@@ -140,19 +136,13 @@ pub fn with_first(
 }
 
 /// The graph with the guard in front, as the program with the next number.
-pub fn with_guard(
-    alloc: Global,
-    programs: &[Program],
-    order: &Order,
-    given: &[Path],
-) -> Result<Guarded, NoMemory>
-    requires { length programs.now ≡ order.now.count }
-    ensures programs { IfOk result (λ g. map program_of g.programs ≡ guarded given.now (map program_of programs.now)) }
+pub fn with_guard(alloc: Global, plan: &Plan<'_>, given: &[Path]) -> Result<Guarded, NoMemory>
+    ensures programs { IfOk result (λ g. map program_of g.programs ≡ guarded given.now (meant_by plan.now)) }
     ensures count { IfOk result (λ g. length g.programs ≡ g.order.count) }
-    ensures more { IfOk result (λ g. g.order.count ≡ order.now.count + 1) }
-    ensures order { IfOk result (λ g. comes g.order ≡ guard_before order.now.count (comes order.now)) }
+    ensures more { IfOk result (λ g. g.order.count ≡ plan.now.order.now.count + 1) }
+    ensures order { IfOk result (λ g. comes g.order ≡ guard_before plan.now.order.now.count (comes plan.now.order.now)) }
 {
     let guard = guard_of(alloc, given)?;
-    let graph = with_first(alloc, programs, order, guard)?;
+    let graph = with_first(alloc, plan, guard)?;
     Ok(graph)
 }

@@ -9,6 +9,7 @@ ghost use Rattle.fs_semantics.specs.Changes.{IsProper};
 ghost use Rattle.fs_semantics.specs.Orders.{Told, IsDeterministic, IsExchange, IsCounterexample, IsLinearExtension};
 ghost use Rattle.fs_lang.specs.Meaning.{program_of};
 ghost use Rattle.orders.specs.Relation.{Relation, comes, Comes};
+ghost use Rattle.plans.specs.Plans.{meant_by};
 ghost use Rattle.commute_prune.specs.declared.settling.Pruned.{Pruned as P};
 ghost use Rattle.sure_folders.specs.Pruning.{between};
 ghost use Rattle.commute_prune.specs.Pruned.{IsPruned};
@@ -22,6 +23,7 @@ use crate::pairs::pairs_of;
 use commute_prune::{Pruned, pruning};
 use fs_lang::Program;
 use orders::{Order, OrderFault};
+use plans::Plan;
 use rh_base::{NoMemory, Seq};
 use std::alloc::Global;
 
@@ -92,20 +94,14 @@ fn contracted_programs(
 }
 
 /// The graph of what is kept, between what goes first and what goes last.
-pub fn contract(
-    alloc: Global,
-    programs: &[Program],
-    order: &Order,
-    kept: &Kept,
-) -> Result<Contracted, NoMemory>
-    requires count { length programs.now ≡ order.now.count }
-    requires kept { IsKept (map program_of programs.now) order.now kept.now }
+pub fn contract(alloc: Global, plan: &Plan<'_>, kept: &Kept) -> Result<Contracted, NoMemory>
+    requires kept { IsKept (meant_by plan.now) plan.now.order.now kept.now }
     requires fits { length kept.now.pruned.kept + 2 < 2 ^ 32 }
-    ensures { IfOk result (IsContracted (map program_of programs.now) order.now kept.now.pruned) }
+    ensures { IfOk result (IsContracted (meant_by plan.now) plan.now.order.now kept.now.pruned) }
 {
     pruning();
-    let all = contracted_programs(alloc, programs, &kept.pruned)?;
-    let around = order_around(alloc, order, kept.pruned.kept.as_slice())?;
+    let all = contracted_programs(alloc, plan.programs, &kept.pruned)?;
+    let around = order_around(alloc, plan.order, kept.pruned.kept.as_slice())?;
     Ok(Contracted {
         programs: all,
         order: around,

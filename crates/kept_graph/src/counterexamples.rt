@@ -5,6 +5,7 @@ ghost use Rattle.std.specs.List.{AllByRecursion};
 ghost use Rattle.fs_semantics.specs.Orders.{IsLinearExtension, IsExchange, outcome};
 ghost use Rattle.fs_lang.specs.Meaning.{program_of};
 ghost use Rattle.orders.specs.Relation.{Comes};
+ghost use Rattle.plans.specs.Plans.{meant_by};
 ghost use Rattle.kept_graph.specs.Kept.{IsKept};
 ghost use Rattle.kept_graph.specs.Completed.{IsCompleted, AgreeCompleted};
 
@@ -13,7 +14,7 @@ use crate::kept::Kept;
 use commute_prune::are_proper;
 use fs_lang::{Program, Tree};
 use fs_replay::{replay, same_outcome};
-use orders::Order;
+use plans::Plan;
 use rh_base::{NoMemory, Seq};
 use std::alloc::Global;
 
@@ -46,33 +47,37 @@ pub fn end_alike(
 /// and where the two differ by one exchange of free neighbours, so do these.
 pub fn refute(
     alloc: Global,
-    programs: &[Program],
-    order: &Order,
+    plan: &Plan<'_>,
     kept: &Kept,
     tree: &Tree,
     left: &[u32],
     right: &[u32],
 ) -> Result<Option<Completed>, NoMemory>
-    requires count { length programs.now ≡ order.now.count }
-    requires kept { IsKept (map program_of programs.now) order.now kept.now }
+    requires kept { IsKept (meant_by plan.now) plan.now.order.now kept.now }
     requires left { IsLinearExtension kept.now.order.count (Comes kept.now.order) left.now }
     requires right { IsLinearExtension kept.now.order.count (Comes kept.now.order) right.now }
     ensures found { IfOk result
         (λ found. IfSome found (IsCompleted
-        (map program_of programs.now) order.now kept.now.pruned tree.now left.now right.now)) }
+        (meant_by plan.now) plan.now.order.now kept.now.pruned tree.now left.now right.now)) }
     ensures exchange { IsExchange (Comes kept.now.order) left.now right.now
-        → IfOk result (λ found. IfSome found (λ c. IsExchange (Comes order.now) c.left c.right)) }
+        → IfOk result (λ found. IfSome found (λ c. IsExchange (Comes plan.now.order.now) c.left c.right)) }
     // Nothing is answered exactly where they end alike.
     ensures agree { IfOk result
         (λ found. MatchOption found
-        (AgreeCompleted (map program_of programs.now) kept.now.pruned tree.now left.now right.now) (λ c. Unit)) }
+        (AgreeCompleted (meant_by plan.now) kept.now.pruned tree.now left.now right.now) (λ c. Unit)) }
 {
     completions();
-    are_proper(programs);
+    are_proper(plan.programs);
     tree.is_tree();
     let first = complete(alloc, &kept.pruned, left)?;
     let second = complete(alloc, &kept.pruned, right)?;
-    let alike = end_alike(alloc, programs, tree, first.as_slice(), second.as_slice())?;
+    let alike = end_alike(
+        alloc,
+        plan.programs,
+        tree,
+        first.as_slice(),
+        second.as_slice(),
+    )?;
     if alike {
         return Ok(None);
     }

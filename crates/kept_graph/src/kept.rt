@@ -7,6 +7,7 @@ ghost use Rattle.fs_semantics.specs.Programs.{Program as E, Id};
 ghost use Rattle.fs_semantics.specs.Orders.{Told, IsDeterministic, IsCounterexample};
 ghost use Rattle.fs_lang.specs.Meaning.{program_of};
 ghost use Rattle.orders.specs.Relation.{Relation, comes, Comes};
+ghost use Rattle.plans.specs.Plans.{meant_by};
 ghost use Rattle.sure_folders.specs.Pruning.{chosen, between};
 ghost use Rattle.kept_graph.specs.declared.kept.Kept.{Kept as K};
 ghost use Rattle.kept_graph.specs.Kept.{IsKept};
@@ -15,6 +16,7 @@ use crate::pairs::order_between;
 use commute_prune::{Pruned, are_proper, prune, pruning};
 use fs_lang::Program;
 use orders::Order;
+use plans::Plan;
 use rh_base::{NoMemory, Seq};
 use std::alloc::Global;
 
@@ -48,14 +50,13 @@ pub fn chosen(alloc: Global, programs: &[Program], kept: &[u32]) -> Result<Seq<P
 }
 
 /// What pruning keeps, with the programs and the order between them.
-fn rest(alloc: Global, programs: &[Program], order: &Order) -> Result<Kept, NoMemory>
-    requires { length programs.now ≡ order.now.count }
-    ensures { IfOk result (IsKept (map program_of programs.now) order.now) }
+fn rest(alloc: Global, plan: &Plan<'_>) -> Result<Kept, NoMemory>
+    ensures { IfOk result (IsKept (meant_by plan.now) plan.now.order.now) }
 {
     pruning();
-    let pruned = prune(alloc, programs, order)?;
-    let copies = chosen(alloc, programs, pruned.kept.as_slice())?;
-    let part = order_between(alloc, order, pruned.kept.as_slice())?;
+    let pruned = prune(alloc, plan.programs, plan.order)?;
+    let copies = chosen(alloc, plan.programs, pruned.kept.as_slice())?;
+    let part = order_between(alloc, plan.order, pruned.kept.as_slice())?;
     Ok(Kept {
         pruned,
         programs: copies,
@@ -64,16 +65,15 @@ fn rest(alloc: Global, programs: &[Program], order: &Order) -> Result<Kept, NoMe
 }
 
 /// The graph of what pruning keeps. Where it is deterministic, the whole graph is; so it is where nothing is kept.
-pub fn keep(alloc: Global, programs: &[Program], order: &Order) -> Result<Kept, NoMemory>
-    requires { length programs.now ≡ order.now.count }
-    ensures kept { IfOk result (IsKept (map program_of programs.now) order.now) }
+pub fn keep(alloc: Global, plan: &Plan<'_>) -> Result<Kept, NoMemory>
+    ensures kept { IfOk result (IsKept (meant_by plan.now) plan.now.order.now) }
     ensures enough { IfOk result (λ kept. IsDeterministic (map program_of kept.programs) (Told (comes kept.order))
-        → IsDeterministic (map program_of programs.now) (Told (comes order.now))) }
-    ensures nothing { IfOk result (λ kept. kept.programs ≡ [] → IsDeterministic (map program_of programs.now) (Told (comes order.now))) }
+        → IsDeterministic (meant_by plan.now) (Told (comes plan.now.order.now))) }
+    ensures nothing { IfOk result (λ kept. kept.programs ≡ [] → IsDeterministic (meant_by plan.now) (Told (comes plan.now.order.now))) }
 {
     pruning();
-    are_proper(programs);
-    let kept = rest(alloc, programs, order)?;
+    are_proper(plan.programs);
+    let kept = rest(alloc, plan)?;
     Ok(kept)
 }
 

@@ -7,6 +7,7 @@ use ensured_entry::{Ensured, Late, Wanted, judge_entry};
 use fs_lang::{Path, PathFault, Program};
 use order_encode::Witness;
 use orders::Order;
+use plans::Plan;
 use rh_base::{Boxed, Fault, NoMemory};
 use std::alloc::Global;
 use std::test::Fail;
@@ -89,7 +90,8 @@ fn told_by(
     if order.count() as usize != programs.len() || budget == 0 {
         return Err(Fail::from("as many nodes as programs, and a budget"));
     }
-    let answer = Boxed::new(alloc, judge_entry(alloc, programs, order, wanted, budget))?;
+    let plan = Plan { programs, order };
+    let answer = Boxed::new(alloc, judge_entry(alloc, &plan, wanted, budget))?;
     Ok(shown(alloc, answer.get())?)
 }
 

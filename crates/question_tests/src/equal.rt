@@ -6,6 +6,7 @@ use determinism::First;
 use equal_graphs::{Compared, compare};
 use fs_lang::Program;
 use orders::Order;
+use plans::Plan;
 use rh_base::{Boxed, Fault, NoMemory};
 use std::alloc::Global;
 use std::test::Fail;
@@ -50,7 +51,15 @@ fn told(
     if order.count() as usize != left.len() || other.count() as usize != right.len() {
         return Err(Fail::from("as many nodes as programs"));
     }
-    let answer = Boxed::new(alloc, compare(alloc, left, order, right, other, u64::MAX))?;
+    let one = Plan {
+        programs: left,
+        order,
+    };
+    let second = Plan {
+        programs: right,
+        order: other,
+    };
+    let answer = Boxed::new(alloc, compare(alloc, &one, &second, u64::MAX))?;
     Ok(shown(alloc, answer.get())?)
 }
 

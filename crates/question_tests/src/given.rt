@@ -7,6 +7,7 @@ use given_repair::repair_from;
 use given_verdict::{check_size_with, judge_from};
 use host_limits::Limits;
 use orders::Order;
+use plans::Plan;
 use question_terms::Terms;
 use repair::Repaired;
 use rh_base::{Boxed, Fault, NoMemory, Seq};
@@ -76,7 +77,8 @@ fn told_by(
     if order.count() as usize != programs.len() {
         return Err(Fail::from("as many nodes as programs"));
     }
-    let answer = Boxed::new(alloc, judge_from(alloc, programs, order, asked))?;
+    let plan = Plan { programs, order };
+    let answer = Boxed::new(alloc, judge_from(alloc, &plan, asked))?;
     Ok(shown(alloc, answer.get())?)
 }
 
@@ -247,7 +249,8 @@ fn added_by(
     if order.count() as usize != programs.len() {
         return Err(Fail::from("as many nodes as programs"));
     }
-    let answer = Boxed::new(alloc, repair_from(alloc, programs, order, asked))?;
+    let plan = Plan { programs, order };
+    let answer = Boxed::new(alloc, repair_from(alloc, &plan, asked))?;
     Ok(added(alloc, answer.get())?)
 }
 

@@ -4,6 +4,7 @@ use crate::programs::{all_again, one_in_turn, ordered, unordered};
 use determinism::{First, Sure, judge_order};
 use fs_lang::Program;
 use orders::Order;
+use plans::Plan;
 use rh_base::{Boxed, Fault, NoMemory};
 use std::alloc::Global;
 use std::test::Fail;
@@ -57,7 +58,8 @@ fn told_by(alloc: Global, programs: &[Program], order: &Order) -> Result<String,
     if order.count() as usize != programs.len() {
         return Err(Fail::from("as many nodes as programs"));
     }
-    let answer = Boxed::new(alloc, judge_order(alloc, programs, order, u64::MAX))?;
+    let plan = Plan { programs, order };
+    let answer = Boxed::new(alloc, judge_order(alloc, &plan, u64::MAX))?;
     Ok(shown(alloc, answer.get())?)
 }
 

@@ -3,6 +3,7 @@
 use crate::programs::{ordered, unordered};
 use fs_lang::{Path, Program, Tree};
 use orders::Order;
+use plans::Plan;
 use rh_base::{Boxed, NoMemory};
 use std::alloc::Global;
 use std::test::Fail;
@@ -72,7 +73,8 @@ fn found_by(
     if order.count() as usize != programs.len() {
         return Err(Fail::from("as many nodes as programs"));
     }
-    let answer = Boxed::new(alloc, try_pairs(alloc, programs, order, &[pair]))?;
+    let plan = Plan { programs, order };
+    let answer = Boxed::new(alloc, try_pairs(alloc, &plan, &[pair]))?;
     Ok(shown(alloc, answer.get())?)
 }
 
@@ -225,7 +227,8 @@ fn found_on(
     if order.count() as usize != programs.len() {
         return Err(Fail::from("as many nodes as programs"));
     }
-    let answer = Boxed::new(alloc, try_tree(alloc, programs, order, &[(0, 1)], tree))?;
+    let plan = Plan { programs, order };
+    let answer = Boxed::new(alloc, try_tree(alloc, &plan, &[(0, 1)], tree))?;
     Ok(shown(alloc, answer.get())?)
 }
 

@@ -4,6 +4,7 @@ use crate::judging::refused;
 use crate::programs::{all_again, one_in_turn, ordered, unordered};
 use fs_lang::Program;
 use orders::Order;
+use plans::Plan;
 use rh_base::{Boxed, Fault, NoMemory};
 use std::alloc::Global;
 use std::test::Fail;
@@ -49,7 +50,8 @@ fn told_by(alloc: Global, programs: &[Program], order: &Order) -> Result<String,
     if order.count() as usize != programs.len() {
         return Err(Fail::from("as many nodes as programs"));
     }
-    let answer = Boxed::new(alloc, judge(alloc, programs, order, u64::MAX))?;
+    let plan = Plan { programs, order };
+    let answer = Boxed::new(alloc, judge(alloc, &plan, u64::MAX))?;
     Ok(shown(alloc, answer.get())?)
 }
 

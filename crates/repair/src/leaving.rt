@@ -4,10 +4,10 @@
 //! arrow takes two questions, and each further one two more. A budget that is spent meanwhile ends the repair, with the arrows
 //! that were asked about: whether the one that was tried is needed isn't known then.
 
-ghost use Rattle.std.specs.Prelude.{◌≡◌, ◌≤◌, ◌++◌, ◌∷◌, length, map, IfOk, OnOk};
+ghost use Rattle.std.specs.Prelude.{◌≡◌, ◌≤◌, ◌++◌, ◌∷◌, IfOk, OnOk};
 ghost use Rattle.fs_semantics.specs.Orders.{IsDeterministic};
-ghost use Rattle.fs_lang.specs.Meaning.{program_of};
 ghost use Rattle.orders.specs.Relation.{comes};
+ghost use Rattle.plans.specs.Plans.{meant_by};
 ghost use Rattle.commute_prune.specs.Pairs.{pairs_of};
 ghost use Rattle.repair.specs.Arrows.{ComesWith};
 ghost use Rattle.repair.specs.Steps.{WereMissing};
@@ -16,8 +16,7 @@ ghost use Rattle.repair.specs.Answers.{IsRepaired};
 use crate::missing::{Look, look_at};
 use crate::repaired::Repaired;
 use crate::with::with_arrows;
-use fs_lang::Program;
-use orders::Order;
+use plans::Plan;
 use rh_base::{NoMemory, Seq};
 use std::alloc::Global;
 
@@ -48,20 +47,18 @@ fn joined(
 /// graph is deterministic is left out for good.
 pub(crate) fn leave_out(
     alloc: Global,
-    programs: &[Program],
-    order: &Order,
+    plan: &Plan<'_>,
     pairs: &[(u32, u32)],
     arrows: &[(u32, u32)],
     budget: u64,
 ) -> Result<Repaired, NoMemory>
-    requires count { length programs.now ≡ order.now.count }
-    requires pairs { pairs.now ≡ pairs_of (comes order.now) order.now.count order.now.count }
+    requires pairs { pairs.now ≡ pairs_of (comes plan.now.order.now) plan.now.order.now.count plan.now.order.now.count }
     requires budget { 1 ≤ budget }
-    requires missing { WereMissing (map program_of programs.now) order.now arrows.now }
-    requires deterministic { IsDeterministic (map program_of programs.now) (ComesWith order.now arrows.now) }
-    ensures { IfOk result (IsRepaired (map program_of programs.now) order.now budget) }
+    requires missing { WereMissing (meant_by plan.now) plan.now.order.now arrows.now }
+    requires deterministic { IsDeterministic (meant_by plan.now) (ComesWith plan.now.order.now arrows.now) }
+    ensures { IfOk result (IsRepaired (meant_by plan.now) plan.now.order.now budget) }
 {
-    order.count();
+    plan.order.count();
     let Some((last, earlier)) = arrows.split_last() else {
         return Ok(Repaired::Done {
             added: Seq::new(alloc),
@@ -71,8 +68,12 @@ pub(crate) fn leave_out(
     let mut rest = earlier;
     while let Some((arrow, others)) = rest.split_last() {
         let without = joined(alloc, others, needed.as_slice())?;
-        let made = with_arrows(alloc, order, pairs, without.as_slice())?;
-        match look_at(alloc, programs, &made, budget)? {
+        let made = with_arrows(alloc, plan.order, pairs, without.as_slice())?;
+        let with = Plan {
+            programs: plan.programs,
+            order: &made,
+        };
+        match look_at(alloc, &with, budget)? {
             Look::Sure => {}
             Look::Missing(_) => needed = joined(alloc, &[*arrow], needed.as_slice())?,
             Look::Spent(cnf, log) => {

@@ -1,19 +1,19 @@
 //! One arrow that is missing. Of two runs that differ by one exchange the one is followed that ends in a tree; where both do,
 //! and in different ones, the first is, since nothing tells which arrow is meant.
 
-ghost use Rattle.std.specs.Prelude.{◌≡◌, ◌≤◌, length, map, IfOk};
+ghost use Rattle.std.specs.Prelude.{◌≡◌, ◌≤◌, IfOk};
 ghost use Rattle.fs_semantics.specs.Orders.{Told, IsExchange, IsCounterexample};
-ghost use Rattle.fs_lang.specs.Meaning.{program_of};
 ghost use Rattle.orders.specs.Relation.{comes};
+ghost use Rattle.plans.specs.Plans.{meant_by};
 ghost use Rattle.determinism.specs.First.{IsDifference};
 ghost use Rattle.repair.specs.Missing.{first_apart, IsMissing, IsLook};
 
 use cnf::{Cnf, Log};
 use determinism::{First, judge_any};
-use fs_lang::{Outcome, Program, Tree};
+use fs_lang::{Outcome, Tree};
 use fs_replay::replay;
 use order_encode::Witness;
-use orders::Order;
+use plans::Plan;
 use rh_base::NoMemory;
 use std::alloc::Global;
 
@@ -47,21 +47,19 @@ fn first_apart(left: &[u32], right: &[u32]) -> Option<(u32, u32)>
 /// Of two runs that differ by one exchange and end differently, the arrow that one of them follows, which ends in a tree.
 fn arrow_between(
     alloc: Global,
-    programs: &[Program],
-    order: &Order,
+    plan: &Plan<'_>,
     tree: &Tree,
     left: &[u32],
     right: &[u32],
 ) -> Result<(u32, u32), NoMemory>
-    requires count { length programs.now ≡ order.now.count }
-    requires differ { IsCounterexample (map program_of programs.now) (Told (comes order.now)) tree.now left.now right.now }
-    requires exchange { IsExchange (Told (comes order.now)) left.now right.now }
-    ensures { IfOk result (IsMissing (map program_of programs.now) order.now) }
+    requires differ { IsCounterexample (meant_by plan.now) (Told (comes plan.now.order.now)) tree.now left.now right.now }
+    requires exchange { IsExchange (Told (comes plan.now.order.now)) left.now right.now }
+    ensures { IfOk result (IsMissing (meant_by plan.now) plan.now.order.now) }
 {
     let Some((a, b)) = first_apart(left, right) else {
         unreachable!();
     };
-    let ended = replay(alloc, programs, left, tree)?;
+    let ended = replay(alloc, plan.programs, left, tree)?;
     match ended {
         Outcome::Ended(_) => Ok((a, b)),
         Outcome::Error => Ok((b, a)),
@@ -69,21 +67,14 @@ fn arrow_between(
 }
 
 /// The arrow that is missing where a graph isn't deterministic.
-fn arrow_in(
-    alloc: Global,
-    programs: &[Program],
-    order: &Order,
-    witness: Witness,
-) -> Result<(u32, u32), NoMemory>
-    requires count { length programs.now ≡ order.now.count }
-    requires differ { IsDifference (map program_of programs.now) (Told (comes order.now)) witness }
-    ensures { IfOk result (IsMissing (map program_of programs.now) order.now) }
+fn arrow_in(alloc: Global, plan: &Plan<'_>, witness: Witness) -> Result<(u32, u32), NoMemory>
+    requires { IsDifference (meant_by plan.now) (Told (comes plan.now.order.now)) witness }
+    ensures { IfOk result (IsMissing (meant_by plan.now) plan.now.order.now) }
 {
     match witness {
         Witness::Orders { tree, left, right } => arrow_between(
             alloc,
-            programs,
-            order,
+            plan,
             &tree,
             left.as_slice(),
             right.as_slice(),
@@ -93,21 +84,15 @@ fn arrow_in(
 }
 
 /// Asks whether a graph is deterministic. Where it isn't, the arrow is answered that a run follows which ends in a tree.
-pub(crate) fn look_at(
-    alloc: Global,
-    programs: &[Program],
-    order: &Order,
-    budget: u64,
-) -> Result<Look, NoMemory>
-    requires count { length programs.now ≡ order.now.count }
-    requires budget { 1 ≤ budget }
-    ensures { IfOk result (IsLook (map program_of programs.now) order.now budget) }
+pub(crate) fn look_at(alloc: Global, plan: &Plan<'_>, budget: u64) -> Result<Look, NoMemory>
+    requires { 1 ≤ budget }
+    ensures { IfOk result (IsLook (meant_by plan.now) plan.now.order.now budget) }
 {
-    let first = judge_any(alloc, programs, order, budget)?;
+    let first = judge_any(alloc, plan, budget)?;
     match first {
         First::Sure { .. } => Ok(Look::Sure),
         First::Differs { witness, .. } => {
-            let arrow = arrow_in(alloc, programs, order, witness)?;
+            let arrow = arrow_in(alloc, plan, witness)?;
             Ok(Look::Missing(arrow))
         }
         First::Spent { cnf, log, .. } => Ok(Look::Spent(cnf, log)),

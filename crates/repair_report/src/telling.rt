@@ -1,16 +1,15 @@
 //! What is told of a repair.
 
-ghost use Rattle.std.specs.Prelude.{◌≡◌, length, map, IfOk, IfErr};
+ghost use Rattle.std.specs.Prelude.{◌≡◌, length, IfOk, IfErr};
 ghost use Rattle.rh_base.specs.Refused.{IfRefused};
-ghost use Rattle.fs_lang.specs.Meaning.{program_of};
+ghost use Rattle.plans.specs.Plans.{meant_by};
 ghost use Rattle.given_verdict.specs.Limits.{IsTooLargeWith};
 ghost use Rattle.repair_report.specs.Told.{IsRepairTold};
 ghost use Rattle.repair_report.specs.Steps.{AreTellable, IsReportOf};
 
 use crate::lines::{repaired_text, unrepaired_text};
-use fs_lang::Program;
 use given_repair::repair_from;
-use orders::Order;
+use plans::Plan;
 use question_terms::Terms;
 use repair::Repaired;
 use rh_base::{Fault, NoMemory, Text};
@@ -48,17 +47,15 @@ pub fn told(
     terms: &Terms,
     notes: &[u8],
     names: &[Text],
-    programs: &[Program],
-    order: &Order,
+    plan: &Plan<'_>,
 ) -> Result<Report, Fault>
-    requires count { length programs.now ≡ order.now.count }
-    requires names { length names.now ≡ order.now.count }
-    ensures told { IfOk result (IsRepairTold terms.now notes.now names.now (map program_of programs.now) order.now) }
+    requires { length names.now ≡ plan.now.order.now.count }
+    ensures told { IfOk result (IsRepairTold terms.now notes.now names.now (meant_by plan.now) plan.now.order.now) }
     // It is refused exactly where the graph is too large to be asked about.
-    ensures refused { IfErr result (λ e. IfRefused e (IsTooLargeWith terms.now.limits terms.now.given (map program_of programs.now))) }
+    ensures refused { IfErr result (λ e. IfRefused e (IsTooLargeWith terms.now.limits terms.now.given (meant_by plan.now))) }
 {
-    let repaired = repair_from(alloc, programs, order, terms)?;
+    let repaired = repair_from(alloc, plan, terms)?;
     let budget = terms.budget();
-    let report = report_of(alloc, names, programs.len(), notes, budget, &repaired)?;
+    let report = report_of(alloc, names, plan.programs.len(), notes, budget, &repaired)?;
     Ok(report)
 }

@@ -25,6 +25,7 @@ use equal_report::told;
 use fs_lang::Program;
 use host_limits::Limits;
 use known_inputs::{Inputs, Known, compiled_of, known_inputs};
+use plans::Plan;
 use rh_base::{Fault, NoMemory, Seq, Text};
 use std::alloc::Global;
 use verdict_report::Report;
@@ -102,19 +103,23 @@ fn told_of_both(
     let other_shown = others.as_slice();
     let notes = asked.notes.as_str().as_bytes();
     let other_notes = other_asked.notes.as_str().as_bytes();
-    let made = left.programs.as_slice();
-    let other_made = right.programs.as_slice();
+    let first = Plan {
+        programs: left.programs.as_slice(),
+        order: &left.plan.order,
+    };
+    let other = Plan {
+        programs: right.programs.as_slice(),
+        order: &right.plan.order,
+    };
     told(
         alloc,
         &asked.terms,
         notes,
         other_notes,
         shown,
-        made,
-        &left.plan.order,
+        &first,
         other_shown,
-        other_made,
-        &right.plan.order,
+        &other,
     )
 }
 

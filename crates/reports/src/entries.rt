@@ -14,6 +14,7 @@ use catalog::Catalog;
 use dep_graph::Graph;
 use entry_report::told;
 use fs_lang::Program;
+use plans::Plan;
 use rh_base::Fault;
 use std::alloc::Global;
 use verdict_report::Report;
@@ -42,13 +43,9 @@ pub fn ensured(
     let names = names_in(alloc, catalog, plain)?;
     let shown = names.as_slice();
     let notes = asked.notes.as_str().as_bytes();
-    told(
-        alloc,
-        &asked.terms,
-        notes,
-        wanted,
-        shown,
+    let ordered = Plan {
         programs,
-        &plan.order,
-    )
+        order: &plan.order,
+    };
+    told(alloc, &asked.terms, notes, wanted, shown, &ordered)
 }

@@ -22,6 +22,7 @@ use fs_lang::Program;
 use known_inputs::{Inputs, Known};
 use node_label::node_line;
 use placed_names::placed_names;
+use plans::Plan;
 use pp_compile::one_reading;
 use printed_names::printed;
 use rh_base::{Fault, NoMemory, Seq, Text};
@@ -141,6 +142,10 @@ pub fn explained(
     notes.push(asked.notes.as_str())?;
     let shown = names.as_slice();
     let lines = notes.as_str().as_bytes();
-    let report = told(alloc, &asked.terms, lines, shown, programs, &plan.order)?;
+    let ordered = Plan {
+        programs,
+        order: &plan.order,
+    };
+    let report = told(alloc, &asked.terms, lines, shown, &ordered)?;
     Ok(report)
 }

@@ -13,6 +13,7 @@ use catalog::Catalog;
 use compiled_text::CompiledCatalog;
 use dep_graph::Graph;
 use fs_lang::Program;
+use plans::Plan;
 use repair_report::{quoted_ref, told};
 use rh_base::{Fault, NoMemory, Seq, Text};
 use std::alloc::Global;
@@ -84,5 +85,9 @@ pub fn repaired(
     let names = quoted_names_in(alloc, source, catalog, plain)?;
     let shown = names.as_slice();
     let notes = asked.notes.as_str().as_bytes();
-    told(alloc, &asked.terms, notes, shown, programs, &plan.order)
+    let ordered = Plan {
+        programs,
+        order: &plan.order,
+    };
+    told(alloc, &asked.terms, notes, shown, &ordered)
 }

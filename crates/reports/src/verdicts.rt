@@ -13,6 +13,7 @@ use crate::terms::Asked;
 use catalog::Catalog;
 use dep_graph::Graph;
 use fs_lang::Program;
+use plans::Plan;
 use pp_value::shown_ref;
 use rh_base::{Fault, NoMemory, Seq, Text};
 use std::alloc::Global;
@@ -64,13 +65,9 @@ pub fn judged(
     let names = names_in(alloc, catalog, plain)?;
     let shown = names.as_slice();
     let notes = asked.notes.as_str().as_bytes();
-    told(
-        alloc,
-        form,
-        &asked.terms,
-        notes,
-        shown,
+    let ordered = Plan {
         programs,
-        &plan.order,
-    )
+        order: &plan.order,
+    };
+    told(alloc, form, &asked.terms, notes, shown, &ordered)
 }

@@ -7,11 +7,12 @@
 //! doesn't; then the whole graph is asked, and what the groups took till then is lost. All groups have one refutation together,
 //! so that one proof is printed.
 
-ghost use Rattle.std.specs.Prelude.{◌≡◌, ◌≤◌, ◌<◌, ◌^◌, map, length, IfOk, IfSome};
+ghost use Rattle.std.specs.Prelude.{◌≤◌, ◌<◌, ◌^◌, map, length, IfOk, IfSome};
 ghost use Rattle.std.specs.List.{AllByRecursion};
 ghost use Rattle.fs_semantics.specs.Orders.{Told, IsDeterministic, IsIdempotent};
 ghost use Rattle.fs_lang.specs.Meaning.{program_of};
 ghost use Rattle.orders.specs.Relation.{comes};
+ghost use Rattle.plans.specs.Plans.{meant_by};
 ghost use Rattle.proof_check.specs.Refuted.{HasNoModel};
 ghost use Rattle.settled_groups.specs.Groups.{GroupSettles};
 ghost use Rattle.apart_groups.specs.Groups.{AreGroups};
@@ -26,8 +27,8 @@ use fs_lang::Program;
 use fs_semantics::linear_extensions;
 use kept_graph::chosen;
 use order_encode::{Question, ask_twice};
-use orders::Order;
 use path_domain::domain;
+use plans::Plan;
 use proof_check::Verified;
 use rh_base::{NoMemory, Seq};
 use settled_groups::settled_groups;
@@ -95,24 +96,22 @@ fn each_settles(
 /// group, or where some group doesn't tell.
 pub fn same_in_groups(
     alloc: Global,
-    programs: &[Program],
-    order: &Order,
+    plan: &Plan<'_>,
     groups: &[Seq<u32>],
     budget: u64,
 ) -> Result<Option<Verified>, NoMemory>
-    requires count { length programs.now ≡ order.now.count }
     requires budget { 1 ≤ budget }
-    requires deterministic { IsDeterministic (map program_of programs.now) (Told (comes order.now)) }
-    requires groups { AreGroups (map program_of programs.now) (comes order.now) groups.now }
-    ensures same { IfOk result (λ found. IfSome found (λ v. IsIdempotent (map program_of programs.now) (Told (comes order.now)))) }
-    ensures proved { IfOk result (λ found. IfSome found (λ v. IsSecondProof (map program_of programs.now) order.now v.formula)) }
+    requires deterministic { IsDeterministic (meant_by plan.now) (Told (comes plan.now.order.now)) }
+    requires groups { AreGroups (meant_by plan.now) (comes plan.now.order.now) groups.now }
+    ensures same { IfOk result (λ found. IfSome found (λ v. IsIdempotent (meant_by plan.now) (Told (comes plan.now.order.now)))) }
+    ensures proved { IfOk result (λ found. IfSome found (λ v. IsSecondProof (meant_by plan.now) plan.now.order.now v.formula)) }
 {
-    are_proper(programs);
+    are_proper(plan.programs);
     settled_groups();
     if groups.len() < 2 {
         return Ok(None);
     }
-    match each_settles(alloc, programs, groups, budget)? {
+    match each_settles(alloc, plan.programs, groups, budget)? {
         Some(parts) => joined(alloc, &parts),
         None => Ok(None),
     }
@@ -121,16 +120,14 @@ pub fn same_in_groups(
 /// The same of groups of programs that don't touch one another.
 pub(crate) fn same_by_groups(
     alloc: Global,
-    programs: &[Program],
-    order: &Order,
+    plan: &Plan<'_>,
     budget: u64,
 ) -> Result<Option<Verified>, NoMemory>
-    requires count { length programs.now ≡ order.now.count }
     requires budget { 1 ≤ budget }
-    requires deterministic { IsDeterministic (map program_of programs.now) (Told (comes order.now)) }
-    ensures same { IfOk result (λ found. IfSome found (λ v. IsIdempotent (map program_of programs.now) (Told (comes order.now)))) }
-    ensures proved { IfOk result (λ found. IfSome found (λ v. IsSecondProof (map program_of programs.now) order.now v.formula)) }
+    requires deterministic { IsDeterministic (meant_by plan.now) (Told (comes plan.now.order.now)) }
+    ensures same { IfOk result (λ found. IfSome found (λ v. IsIdempotent (meant_by plan.now) (Told (comes plan.now.order.now)))) }
+    ensures proved { IfOk result (λ found. IfSome found (λ v. IsSecondProof (meant_by plan.now) plan.now.order.now v.formula)) }
 {
-    let groups = groups_of(alloc, programs, order)?;
-    same_in_groups(alloc, programs, order, groups.as_slice(), budget)
+    let groups = groups_of(alloc, plan)?;
+    same_in_groups(alloc, plan, groups.as_slice(), budget)
 }

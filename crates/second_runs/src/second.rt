@@ -1,9 +1,9 @@
 //! Whether a second run changes anything.
 
-ghost use Rattle.std.specs.Prelude.{◌≡◌, ◌≤◌, map, length, IfOk};
+ghost use Rattle.std.specs.Prelude.{◌≤◌, IfOk};
 ghost use Rattle.fs_semantics.specs.Orders.{Told, IsDeterministic, IsIdempotent};
-ghost use Rattle.fs_lang.specs.Meaning.{program_of};
 ghost use Rattle.orders.specs.Relation.{comes};
+ghost use Rattle.plans.specs.Plans.{meant_by};
 ghost use Rattle.proof_check.specs.Refuted.{HasNoModel};
 ghost use Rattle.order_encode.specs.Asked.{CanShow};
 ghost use Rattle.order_encode.specs.declared.witness.Witness.{Witness};
@@ -14,50 +14,42 @@ use crate::groups::same_by_groups;
 use answering::{Answer, answer_to};
 use commute_prune::are_proper;
 use finite_domain::{domains, witnesses_over_the_domain};
-use fs_lang::Program;
 use fs_semantics::{constructs, counterexamples};
 use order_encode::{Question, Witness, ask_twice};
 use order_extensions::has_first_extension;
-use orders::Order;
 use path_domain::domain;
+use plans::Plan;
 use rh_base::{NoMemory, Seq};
 use std::alloc::Global;
 
 /// The question whether a second run changes anything. Where its formula has no model, none does: the programs are deterministic,
 /// so that the first extension stands for all allowed orders.
-fn second_question(alloc: Global, programs: &[Program], order: &Order) -> Result<Question, NoMemory>
-    requires count { length programs.now ≡ order.now.count }
-    requires deterministic { IsDeterministic (map program_of programs.now) (Told (comes order.now)) }
-    ensures states { IfOk result (λ q. StatesSecond (map program_of programs.now) order.now q.formula) }
-    ensures same { IfOk result (λ q. HasNoModel q.formula → IsIdempotent (map program_of programs.now) (Told (comes order.now))) }
-    ensures models { IfOk result (λ q. (w : Witness) → CanShow q w → IsSecondChange (map program_of programs.now) order.now w) }
+fn second_question(alloc: Global, plan: &Plan<'_>) -> Result<Question, NoMemory>
+    requires { IsDeterministic (meant_by plan.now) (Told (comes plan.now.order.now)) }
+    ensures states { IfOk result (λ q. StatesSecond (meant_by plan.now) plan.now.order.now q.formula) }
+    ensures same { IfOk result (λ q. HasNoModel q.formula → IsIdempotent (meant_by plan.now) (Told (comes plan.now.order.now))) }
+    ensures models { IfOk result (λ q. (w : Witness) → CanShow q w → IsSecondChange (meant_by plan.now) plan.now.order.now w) }
 {
     constructs();
     counterexamples();
     domains();
     witnesses_over_the_domain();
-    are_proper(programs);
-    has_first_extension(order);
-    let d = domain(alloc, programs)?;
-    ask_twice(alloc, programs, order, &d)
+    are_proper(plan.programs);
+    has_first_extension(plan.order);
+    let d = domain(alloc, plan.programs)?;
+    ask_twice(alloc, plan.programs, plan.order, &d)
 }
 
 /// Asks whether a second run changes anything: of groups that don't touch one another, and of all where that doesn't tell.
-pub fn ask_second(
-    alloc: Global,
-    programs: &[Program],
-    order: &Order,
-    budget: u64,
-) -> Result<Answer, NoMemory>
-    requires count { length programs.now ≡ order.now.count }
+pub fn ask_second(alloc: Global, plan: &Plan<'_>, budget: u64) -> Result<Answer, NoMemory>
     requires budget { 1 ≤ budget }
-    requires deterministic { IsDeterministic (map program_of programs.now) (Told (comes order.now)) }
-    ensures { IfOk result (AnswersSecond (map program_of programs.now) order.now budget) }
+    requires deterministic { IsDeterministic (meant_by plan.now) (Told (comes plan.now.order.now)) }
+    ensures { IfOk result (AnswersSecond (meant_by plan.now) plan.now.order.now budget) }
 {
-    if let Some(same) = same_by_groups(alloc, programs, order, budget)? {
+    if let Some(same) = same_by_groups(alloc, plan, budget)? {
         return Ok(Answer::Refuted(same));
     }
-    let question = second_question(alloc, programs, order)?;
+    let question = second_question(alloc, plan)?;
     answer_to(alloc, question, budget)
 }
 

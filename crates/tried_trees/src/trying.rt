@@ -7,14 +7,16 @@ ghost use Rattle.fs_semantics.specs.Orders.{IsLinearExtension, IsFree};
 ghost use Rattle.fs_lang.specs.Meaning.{program_of};
 ghost use Rattle.fs_replay.specs.Exchanged.{IsGround};
 ghost use Rattle.orders.specs.Relation.{Comes};
+ghost use Rattle.plans.specs.Plans.{meant_by};
 ghost use Rattle.tried_trees.specs.declared.placing.Place.TheVariants.{Early, Late};
 ghost use Rattle.tried_trees.specs.Tried.{IsDifference, IsTried};
 
 use crate::placing::{Place, Swap, placed, swapped};
 use crate::standing::trees_of;
-use fs_lang::{Program, Tree};
+use fs_lang::Tree;
 use fs_replay::{Ground, end_alike_exchanged};
 use orders::Order;
+use plans::Plan;
 use rh_base::{NoMemory, Seq};
 use std::alloc::Global;
 
@@ -72,23 +74,21 @@ fn try_pair(
 /// Each pair on one tree.
 fn try_place(
     alloc: Global,
-    programs: &[Program],
-    order: &Order,
+    plan: &Plan<'_>,
     list: &[u32],
     place: Place,
     pairs: &[(u32, u32)],
     tree: &Tree,
 ) -> Result<Option<Difference>, NoMemory>
-    requires count { length programs.now ≡ order.now.count }
-    requires list { IsLinearExtension order.now.count (Comes order.now) list.now }
-    ensures found { IfOk result (λ found. IfSome found (IsDifference (map program_of programs.now) order.now)) }
+    requires { IsLinearExtension plan.now.order.now.count (Comes plan.now.order.now) list.now }
+    ensures found { IfOk result (λ found. IfSome found (IsDifference (meant_by plan.now) plan.now.order.now)) }
     ensures tried { IfOk result
         (λ found. MatchOption found
-        (AllByRecursion (IsTried place (map program_of programs.now) order.now tree.now) pairs.now) (λ d. Unit)) }
+        (AllByRecursion (IsTried place (meant_by plan.now) plan.now.order.now tree.now) pairs.now) (λ d. Unit)) }
 {
-    let ground = Ground::of(alloc, programs, tree)?;
+    let ground = Ground::of(alloc, plan.programs, tree)?;
     for pair in pairs {
-        if let Some(found) = try_pair(alloc, &ground, order, list, place, *pair)? {
+        if let Some(found) = try_pair(alloc, &ground, plan.order, list, place, *pair)? {
             return Ok(Some(found));
         }
     }
@@ -98,19 +98,17 @@ fn try_place(
 /// Each pair on each of these trees.
 fn try_trees(
     alloc: Global,
-    programs: &[Program],
-    order: &Order,
+    plan: &Plan<'_>,
     list: &[u32],
     place: Place,
     pairs: &[(u32, u32)],
     trees: &[Tree],
 ) -> Result<Option<Difference>, NoMemory>
-    requires count { length programs.now ≡ order.now.count }
-    requires list { IsLinearExtension order.now.count (Comes order.now) list.now }
-    ensures found { IfOk result (λ found. IfSome found (IsDifference (map program_of programs.now) order.now)) }
+    requires { IsLinearExtension plan.now.order.now.count (Comes plan.now.order.now) list.now }
+    ensures found { IfOk result (λ found. IfSome found (IsDifference (meant_by plan.now) plan.now.order.now)) }
 {
     for tree in trees {
-        if let Some(found) = try_place(alloc, programs, order, list, place, pairs, tree)? {
+        if let Some(found) = try_place(alloc, plan, list, place, pairs, tree)? {
             return Ok(Some(found));
         }
     }
@@ -121,99 +119,77 @@ fn try_trees(
 /// pair of which one has to come before the other is passed over, and so is one that names no two programs.
 pub fn try_tree(
     alloc: Global,
-    programs: &[Program],
-    order: &Order,
+    plan: &Plan<'_>,
     pairs: &[(u32, u32)],
     tree: &Tree,
 ) -> Result<Option<Difference>, NoMemory>
-    requires count { length programs.now ≡ order.now.count }
-    ensures found { IfOk result (λ found. IfSome found (IsDifference (map program_of programs.now) order.now)) }
+    ensures found { IfOk result (λ found. IfSome found (IsDifference (meant_by plan.now) plan.now.order.now)) }
     // Where nothing is found, each pair ends alike in either order, put early and put late.
     ensures early { IfOk result
         (λ found. MatchOption found
-        (AllByRecursion (IsTried Early (map program_of programs.now) order.now tree.now) pairs.now) (λ d. Unit)) }
+        (AllByRecursion (IsTried Early (meant_by plan.now) plan.now.order.now tree.now) pairs.now) (λ d. Unit)) }
     ensures late { IfOk result
         (λ found. MatchOption found
-        (AllByRecursion (IsTried Late (map program_of programs.now) order.now tree.now) pairs.now) (λ d. Unit)) }
+        (AllByRecursion (IsTried Late (meant_by plan.now) plan.now.order.now tree.now) pairs.now) (λ d. Unit)) }
 {
-    let list = order.first_extension()?;
-    let early = try_place(
-        alloc,
-        programs,
-        order,
-        list.as_slice(),
-        Place::Early,
-        pairs,
-        tree,
-    )?;
+    let list = plan.order.first_extension()?;
+    let early = try_place(alloc, plan, list.as_slice(), Place::Early, pairs, tree)?;
     if early.is_some() {
         return Ok(early);
     }
-    let late = try_place(
-        alloc,
-        programs,
-        order,
-        list.as_slice(),
-        Place::Late,
-        pairs,
-        tree,
-    )?;
+    let late = try_place(alloc, plan, list.as_slice(), Place::Late, pairs, tree)?;
     Ok(late)
 }
 
 /// Each pair on each of these trees, as early as the order allows, and then as late.
 fn try_places(
     alloc: Global,
-    programs: &[Program],
-    order: &Order,
+    plan: &Plan<'_>,
     list: &[u32],
     pairs: &[(u32, u32)],
     trees: &[Tree],
 ) -> Result<Option<Difference>, NoMemory>
-    requires count { length programs.now ≡ order.now.count }
-    requires list { IsLinearExtension order.now.count (Comes order.now) list.now }
-    ensures found { IfOk result (λ found. IfSome found (IsDifference (map program_of programs.now) order.now)) }
+    requires { IsLinearExtension plan.now.order.now.count (Comes plan.now.order.now) list.now }
+    ensures found { IfOk result (λ found. IfSome found (IsDifference (meant_by plan.now) plan.now.order.now)) }
 {
-    let early = try_trees(alloc, programs, order, list, Place::Early, pairs, trees)?;
+    let early = try_trees(alloc, plan, list, Place::Early, pairs, trees)?;
     if early.is_some() {
         return Ok(early);
     }
-    try_trees(alloc, programs, order, list, Place::Late, pairs, trees)
+    try_trees(alloc, plan, list, Place::Late, pairs, trees)
 }
 
 /// Each pair on the empty tree and on each of these, as early as the order allows, and then as late.
 fn try_first(
     alloc: Global,
-    programs: &[Program],
-    order: &Order,
+    plan: &Plan<'_>,
     list: &[u32],
     pairs: &[(u32, u32)],
     trees: &[Tree],
 ) -> Result<Option<Difference>, NoMemory>
-    requires count { length programs.now ≡ order.now.count }
-    requires list { IsLinearExtension order.now.count (Comes order.now) list.now }
-    ensures found { IfOk result (λ found. IfSome found (IsDifference (map program_of programs.now) order.now)) }
+    requires { IsLinearExtension plan.now.order.now.count (Comes plan.now.order.now) list.now }
+    ensures found { IfOk result (λ found. IfSome found (IsDifference (meant_by plan.now) plan.now.order.now)) }
     ensures early { IfOk result
         (λ found. MatchOption found
-        (AllByRecursion (IsTried Early (map program_of programs.now) order.now map_of.empty) pairs.now) (λ d. Unit)) }
+        (AllByRecursion (IsTried Early (meant_by plan.now) plan.now.order.now map_of.empty) pairs.now) (λ d. Unit)) }
     ensures late { IfOk result
         (λ found. MatchOption found
-        (AllByRecursion (IsTried Late (map program_of programs.now) order.now map_of.empty) pairs.now) (λ d. Unit)) }
+        (AllByRecursion (IsTried Late (meant_by plan.now) plan.now.order.now map_of.empty) pairs.now) (λ d. Unit)) }
 {
     let empty = Tree::empty(alloc)?;
-    let first = try_place(alloc, programs, order, list, Place::Early, pairs, &empty)?;
+    let first = try_place(alloc, plan, list, Place::Early, pairs, &empty)?;
     if first.is_some() {
         return Ok(first);
     }
-    let early = try_trees(alloc, programs, order, list, Place::Early, pairs, trees)?;
+    let early = try_trees(alloc, plan, list, Place::Early, pairs, trees)?;
     if early.is_some() {
         return Ok(early);
     }
-    let last = try_place(alloc, programs, order, list, Place::Late, pairs, &empty)?;
+    let last = try_place(alloc, plan, list, Place::Late, pairs, &empty)?;
     if last.is_some() {
         return Ok(last);
     }
-    let late = try_trees(alloc, programs, order, list, Place::Late, pairs, trees)?;
+    let late = try_trees(alloc, plan, list, Place::Late, pairs, trees)?;
     Ok(late)
 }
 
@@ -223,29 +199,27 @@ fn try_first(
 /// of which one has to come before the other is passed over, and so is one that names no two programs.
 pub fn try_pairs(
     alloc: Global,
-    programs: &[Program],
-    order: &Order,
+    plan: &Plan<'_>,
     pairs: &[(u32, u32)],
 ) -> Result<Option<Difference>, NoMemory>
-    requires count { length programs.now ≡ order.now.count }
-    ensures found { IfOk result (λ found. IfSome found (IsDifference (map program_of programs.now) order.now)) }
+    ensures found { IfOk result (λ found. IfSome found (IsDifference (meant_by plan.now) plan.now.order.now)) }
     // Where nothing is found, each pair ends alike from the empty tree in either order, put early and put late.
     ensures early { IfOk result
         (λ found. MatchOption found
-        (AllByRecursion (IsTried Early (map program_of programs.now) order.now map_of.empty) pairs.now) (λ d. Unit)) }
+        (AllByRecursion (IsTried Early (meant_by plan.now) plan.now.order.now map_of.empty) pairs.now) (λ d. Unit)) }
     ensures late { IfOk result
         (λ found. MatchOption found
-        (AllByRecursion (IsTried Late (map program_of programs.now) order.now map_of.empty) pairs.now) (λ d. Unit)) }
+        (AllByRecursion (IsTried Late (meant_by plan.now) plan.now.order.now map_of.empty) pairs.now) (λ d. Unit)) }
 {
-    let list = order.first_extension()?;
-    let trees = trees_of(alloc, programs)?;
+    let list = plan.order.first_extension()?;
+    let trees = trees_of(alloc, plan.programs)?;
     let first = trees.first.as_slice();
-    let found = try_first(alloc, programs, order, list.as_slice(), pairs, first)?;
+    let found = try_first(alloc, plan, list.as_slice(), pairs, first)?;
     if found.is_some() {
         return Ok(found);
     }
     let others = trees.others.as_slice();
-    let other = try_places(alloc, programs, order, list.as_slice(), pairs, others)?;
+    let other = try_places(alloc, plan, list.as_slice(), pairs, others)?;
     match other {
         Some(difference) => Ok(Some(difference)),
         None => Ok(found),

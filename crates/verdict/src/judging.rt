@@ -1,10 +1,10 @@
 //! Answering the three questions.
 
-ghost use Rattle.std.specs.Prelude.{◌≡◌, ◌≤◌, [], ◌∷◌, ◌++◌, length, map, IfOk, IfErr};
+ghost use Rattle.std.specs.Prelude.{◌≡◌, ◌≤◌, [], ◌∷◌, ◌++◌, IfOk, IfErr};
 ghost use Rattle.rh_base.specs.Refused.{IfRefused};
 ghost use Rattle.fs_semantics.specs.Orders.{Told, IsIdempotent, Succeeds};
-ghost use Rattle.fs_lang.specs.Meaning.{program_of};
 ghost use Rattle.orders.specs.Relation.{comes};
+ghost use Rattle.plans.specs.Plans.{meant_by};
 ghost use Rattle.size_limits.specs.Limits.{HasFewPaths, IsLight, IsTooLarge};
 ghost use Rattle.determinism.specs.Answers.{IsJudged};
 ghost use Rattle.determinism.specs.declared.first.First.TheVariants as first;
@@ -14,8 +14,7 @@ ghost use Rattle.verdict.specs.Answers.{IsVerdict, proofs_in};
 use crate::verdicts::{Asked, Ends, Second, Verdict};
 use answering::Answer;
 use determinism::{First, Sure, judge_any};
-use fs_lang::Program;
-use orders::Order;
+use plans::Plan;
 use proof_check::Verified;
 use rh_base::{Fault, NoMemory, Seq};
 use second_runs::{ask_second, first_run};
@@ -47,21 +46,19 @@ pub fn two_proofs(alloc: Global, sure: Sure, same: Verified) -> Result<Seq<Verif
 /// Asks whether the graph succeeds, where no second run changes anything.
 fn judge_same(
     alloc: Global,
-    programs: &[Program],
-    order: &Order,
+    plan: &Plan<'_>,
     budget: u64,
     pruned: u32,
     sure: Sure,
     same: Verified,
 ) -> Result<Verdict, NoMemory>
-    requires count { length programs.now ≡ order.now.count }
     requires budget { 1 ≤ budget }
-    requires judged { IsJudged (map program_of programs.now) order.now budget (first.Sure pruned sure) }
-    requires idempotent { IsIdempotent (map program_of programs.now) (Told (comes order.now)) }
-    requires same { IsSecondProof (map program_of programs.now) order.now same.formula }
-    ensures { IfOk result (IsVerdict (map program_of programs.now) order.now budget) }
+    requires judged { IsJudged (meant_by plan.now) plan.now.order.now budget (first.Sure pruned sure) }
+    requires idempotent { IsIdempotent (meant_by plan.now) (Told (comes plan.now.order.now)) }
+    requires same { IsSecondProof (meant_by plan.now) plan.now.order.now same.formula }
+    ensures { IfOk result (IsVerdict (meant_by plan.now) plan.now.order.now budget) }
 {
-    let end = ask_end(alloc, programs, order, budget)?;
+    let end = ask_end(alloc, plan, budget)?;
     match end {
         Answer::Shown(witness) => Ok(Verdict::Judged {
             pruned,
@@ -91,20 +88,18 @@ fn judge_same(
 /// Asks about the first extension of a deterministic graph.
 fn judge_sure(
     alloc: Global,
-    programs: &[Program],
-    order: &Order,
+    plan: &Plan<'_>,
     budget: u64,
     pruned: u32,
     sure: Sure,
 ) -> Result<Verdict, NoMemory>
-    requires count { length programs.now ≡ order.now.count }
     requires budget { 1 ≤ budget }
-    requires judged { IsJudged (map program_of programs.now) order.now budget (first.Sure pruned sure) }
-    ensures { IfOk result (IsVerdict (map program_of programs.now) order.now budget) }
+    requires judged { IsJudged (meant_by plan.now) plan.now.order.now budget (first.Sure pruned sure) }
+    ensures { IfOk result (IsVerdict (meant_by plan.now) plan.now.order.now budget) }
 {
-    let again = ask_second(alloc, programs, order, budget)?;
+    let again = ask_second(alloc, plan, budget)?;
     match again {
-        Answer::Refuted(same) => judge_same(alloc, programs, order, budget, pruned, sure, same),
+        Answer::Refuted(same) => judge_same(alloc, plan, budget, pruned, sure, same),
         Answer::Shown(witness) => {
             let end = first_run(alloc, &witness)?;
             Ok(Verdict::Judged {
@@ -130,18 +125,16 @@ fn judge_sure(
 /// Goes on from the answer to the first question.
 fn judge_on(
     alloc: Global,
-    programs: &[Program],
-    order: &Order,
+    plan: &Plan<'_>,
     budget: u64,
     answered: First,
 ) -> Result<Verdict, NoMemory>
-    requires count { length programs.now ≡ order.now.count }
     requires budget { 1 ≤ budget }
-    requires judged { IsJudged (map program_of programs.now) order.now budget answered }
-    ensures { IfOk result (IsVerdict (map program_of programs.now) order.now budget) }
+    requires judged { IsJudged (meant_by plan.now) plan.now.order.now budget answered }
+    ensures { IfOk result (IsVerdict (meant_by plan.now) plan.now.order.now budget) }
 {
     match answered {
-        First::Sure { pruned, sure } => judge_sure(alloc, programs, order, budget, pruned, sure),
+        First::Sure { pruned, sure } => judge_sure(alloc, plan, budget, pruned, sure),
         First::Differs { pruned, witness } => Ok(Verdict::NotDeterministic { pruned, witness }),
         First::Spent { pruned, cnf, log } => Ok(Verdict::Spent {
             pruned,
@@ -154,40 +147,28 @@ fn judge_on(
 }
 
 /// The verdict on a graph, however large it is. Each question has the whole budget; a budget of `u64::MAX` stands for none.
-pub fn judged(
-    alloc: Global,
-    programs: &[Program],
-    order: &Order,
-    budget: u64,
-) -> Result<Verdict, NoMemory>
-    requires count { length programs.now ≡ order.now.count }
-    requires budget { 1 ≤ budget }
-    ensures { IfOk result (IsVerdict (map program_of programs.now) order.now budget) }
+pub fn judged(alloc: Global, plan: &Plan<'_>, budget: u64) -> Result<Verdict, NoMemory>
+    requires { 1 ≤ budget }
+    ensures { IfOk result (IsVerdict (meant_by plan.now) plan.now.order.now budget) }
 {
-    let answered = judge_any(alloc, programs, order, budget)?;
-    judge_on(alloc, programs, order, budget, answered)
+    let answered = judge_any(alloc, plan, budget)?;
+    judge_on(alloc, plan, budget, answered)
 }
 
 /// Whether the programs are deterministic; where they are, whether a second run changes anything, and whether they succeed from
 /// some tree. Each question has the whole budget; a budget of `u64::MAX` stands for none. Where a second run changes something,
 /// the first one ends in a tree, and the last question isn't asked.
-pub fn judge(
-    alloc: Global,
-    programs: &[Program],
-    order: &Order,
-    budget: u64,
-) -> Result<Verdict, Fault>
-    requires count { length programs.now ≡ order.now.count }
-    requires budget { 1 ≤ budget }
+pub fn judge(alloc: Global, plan: &Plan<'_>, budget: u64) -> Result<Verdict, Fault>
+    requires { 1 ≤ budget }
     // It is refused exactly where the graph is too large to be asked about.
-    ensures paths { IfOk result (λ judged. HasFewPaths (map program_of programs.now)) }
-    ensures weight { IfOk result (λ judged. IsLight (map program_of programs.now)) }
-    ensures refused { IfErr result (λ e. IfRefused e (IsTooLarge (map program_of programs.now))) }
-    ensures only { HasFewPaths (map program_of programs.now) → IsLight (map program_of programs.now)
+    ensures paths { IfOk result (λ judged. HasFewPaths (meant_by plan.now)) }
+    ensures weight { IfOk result (λ judged. IsLight (meant_by plan.now)) }
+    ensures refused { IfErr result (λ e. IfRefused e (IsTooLarge (meant_by plan.now))) }
+    ensures only { HasFewPaths (meant_by plan.now) → IsLight (meant_by plan.now)
         → IfErr result (λ e. IfRefused e (λ r. ⊥)) }
-    ensures judged { IfOk result (IsVerdict (map program_of programs.now) order.now budget) }
+    ensures judged { IfOk result (IsVerdict (meant_by plan.now) plan.now.order.now budget) }
 {
-    check_size(alloc, programs)?;
-    let verdict = judged(alloc, programs, order, budget)?;
+    check_size(alloc, plan.programs)?;
+    let verdict = judged(alloc, plan, budget)?;
     Ok(verdict)
 }

@@ -3,6 +3,7 @@
 ghost use Rattle.std.specs.Prelude.{◌≡◌, [], length, map, IfOk, IfErr};
 ghost use Rattle.rh_base.specs.Refused.{IfRefused};
 ghost use Rattle.fs_lang.specs.Meaning.{program_of};
+ghost use Rattle.plans.specs.Plans.{meant_by};
 ghost use Rattle.given_verdict.specs.Limits.{IsTooLargeWith};
 ghost use Rattle.verdict_report.specs.Lines.{status_of, answer_of, lines_of, proofs_of};
 ghost use Rattle.verdict_report.specs.Told.{IsTextOf, IsReportOf, IsTellable, IsTellableAgain, IsTold};
@@ -14,7 +15,7 @@ use crate::report::{Form, Report};
 use crate::runs::{change_text, difference_text};
 use fs_lang::Program;
 use given_verdict::judge_from;
-use orders::Order;
+use plans::Plan;
 use question_terms::Terms;
 use rh_base::{Fault, NoMemory, Seq, Text};
 use std::alloc::Global;
@@ -127,17 +128,15 @@ pub fn told(
     terms: &Terms,
     notes: &[u8],
     names: &[Text],
-    programs: &[Program],
-    order: &Order,
+    plan: &Plan<'_>,
 ) -> Result<Report, Fault>
-    requires count { length programs.now ≡ order.now.count }
-    requires names { length names.now ≡ order.now.count }
-    ensures told { IfOk result (IsTold form terms.now notes.now names.now (map program_of programs.now) order.now) }
+    requires { length names.now ≡ plan.now.order.now.count }
+    ensures told { IfOk result (IsTold form terms.now notes.now names.now (meant_by plan.now) plan.now.order.now) }
     // It is refused exactly where the graph is too large to be asked about.
-    ensures refused { IfErr result (λ e. IfRefused e (IsTooLargeWith terms.now.limits terms.now.given (map program_of programs.now))) }
+    ensures refused { IfErr result (λ e. IfRefused e (IsTooLargeWith terms.now.limits terms.now.given (meant_by plan.now))) }
 {
-    let judged = judge_from(alloc, programs, order, terms)?;
+    let judged = judge_from(alloc, plan, terms)?;
     let budget = terms.budget();
-    let report = report_of(alloc, form, names, programs, notes, budget, judged)?;
+    let report = report_of(alloc, form, names, plan.programs, notes, budget, judged)?;
     Ok(report)
 }

@@ -5,10 +5,10 @@ use Rattle.apart_groups.specs.Groups.{MeetIn, other_pairs}
 use Rattle.apart_groups.proofs.GroupLaws.{touching_meet, others_meet}
 use Rattle.apart_groups.proofs.finding.groups_beside.Goals as goal
 
-pub tested-requires-clause-pairs : goal.tested-requires-clause-pairs
-tested-requires-clause-pairs c =
-    let es = map program_of c.args.programs.now in
-    let order = c.args.order.now in
+pub tested-requires : goal.tested-requires
+tested-requires c =
+    let es = map program_of c.args.plan.now.programs.now in
+    let order = c.args.plan.now.order.now in
     subst (MeetIn es (comes order)) (sym (c.as_slice-2.ensures ∙ c.in_ok-others.ensures ∙ ap (other_pairs c.args.last) c.as_slice.ensures))
-    (others_meet es (comes order) c.args.last c.requires.commutes c.in_ok-touching.touching
+    (others_meet es (comes order) c.args.last c.requires c.in_ok-touching.touching
     (touching_meet es (comes order) (c.sure_pairs.ensures.commute es (comes order) c.are_proper.ensures) c.in_ok-touching.touching c.in_ok-touching.ensures))

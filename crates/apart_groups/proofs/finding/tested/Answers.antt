@@ -11,9 +11,9 @@ use Rattle.apart_groups.proofs.finding.tested.Goals as goal
 
 pub returns : goal.returns
 returns c =
-    let es = map program_of c.args.programs.now in
-    let order = c.args.order.now in
+    let es = map program_of c.args.plan.now.programs.now in
+    let order = c.args.plan.now.order.now in
     let first = c.in_ok-first.first in
-    let allowed = subst (λ n. IsLinearExtension n (Comes order) first) (sym (length-map c.args.programs.now program_of ∙ c.requires.count)) c.in_ok-first.ensures.allowed in
+    let allowed = subst (λ n. IsLinearExtension n (Comes order) first) (sym (length-map c.args.plan.now.programs.now program_of ∙ c.args.plan.now.count)) c.in_ok-first.ensures.allowed in
     IfOk-weaker c.one_group.result (λ groups. groups ≡ first ∷ []) (AreGroups es (comes order))
     (λ groups is. subst (AreGroups es (comes order)) (sym is) (one_group es (comes order) first allowed)) c.one_group.ensures

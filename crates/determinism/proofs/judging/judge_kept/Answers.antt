@@ -31,14 +31,14 @@ returns-in-Refuted c =
     let kept = c.args.kept.now in
     let is = c.requires.kept in
     let sure = subst₂ (λ ps a. AnswersOrder (map program_of ps) kept.order c.args.budget a) c.as_slice.ensures c.in-Refuted.is c.in_ok-answer.ensures in
-    let states = states_kept is (c.kept_graphs.ensures.counterexamples _ c.args.order.now kept is) c.in-Refuted.verified.formula sure.1 in
-    judged_proved is c.pruning.ensures.one c.requires.some (pruned is c.args.programs.now _ refl c.requires.count c.pruned_count-pruned.ensures) (c.requires.enough sure.0)
-    (inl ((c.kept_graphs.ensures.deterministic _ c.args.order.now kept is).0 sure.0, states)) sure.2
+    let states = states_kept is (c.kept_graphs.ensures.counterexamples _ c.args.plan.now.order.now kept is) c.in-Refuted.verified.formula sure.1 in
+    judged_proved is c.pruning.ensures.one c.requires.some (pruned is c.args.plan.now.programs.now _ refl c.args.plan.now.count c.pruned_count-pruned.ensures) (c.requires.enough sure.0)
+    (inl ((c.kept_graphs.ensures.deterministic _ c.args.plan.now.order.now kept is).0 sure.0, states)) sure.2
 
 pub returns-in-Spent : goal.returns-in-Spent
 returns-in-Spent c =
     let kept = c.args.kept.now in
     let is = c.requires.kept in
     let spent = subst₂ (λ ps a. AnswersOrder (map program_of ps) kept.order c.args.budget a) c.as_slice.ensures c.in-Spent.is c.in_ok-answer.ensures in
-    let states = states_kept is (c.kept_graphs.ensures.counterexamples _ c.args.order.now kept is) c.in-Spent.cnf spent.0 in
-    judged_spent is c.pruning.ensures.one c.requires.some (pruned is c.args.programs.now _ refl c.requires.count c.pruned_count-pruned.ensures) (inl states) spent.1
+    let states = states_kept is (c.kept_graphs.ensures.counterexamples _ c.args.plan.now.order.now kept is) c.in-Spent.cnf spent.0 in
+    judged_spent is c.pruning.ensures.one c.requires.some (pruned is c.args.plan.now.programs.now _ refl c.args.plan.now.count c.pruned_count-pruned.ensures) (inl states) spent.1

@@ -7,8 +7,8 @@ use Rattle.determinism.proofs.pairs.all_commute.Goals as goal
 
 pub returns-clause-sure : goal.returns-clause-sure
 returns-clause-sure c =
-    let es = map program_of c.args.programs.now in
-    let before = comes c.args.order.now in
+    let es = map program_of c.args.plan.now.programs.now in
+    let before = comes c.args.plan.now.order.now in
     refuted_no es (Told before) c.in_ok-cnf.cnf (λ none. c.neighbours.ensures.free es before c.are_proper.ensures (c.in_ok-cnf.ensures.states.0 none))
     c.in_ok-found.found c.in_ok-found.ensures.formula c.in_ok-found.ensures.no_model
 

@@ -9,5 +9,5 @@ use Rattle.determinism.proofs.pairs.question.Goals as goal
 pub returns : goal.returns
 returns c = record {
   states = IfOk-weaker c.ask_pairs.result _ _ (λ r exact.
-      commuting c.domains.ensures.laid_out c.shadows.ensures.exist c.shadows.ensures.tell (map program_of c.args.programs.now) (Told (comes c.args.order.now)) c.in_ok-d.d c.in_ok-d.ensures.layout r.0 exact) c.ask_pairs.ensures;
+      commuting c.domains.ensures.laid_out c.shadows.ensures.exist c.shadows.ensures.tell (map program_of c.args.plan.now.programs.now) (Told (comes c.args.plan.now.order.now)) c.in_ok-d.d c.in_ok-d.ensures.layout r.0 exact) c.ask_pairs.ensures;
 }

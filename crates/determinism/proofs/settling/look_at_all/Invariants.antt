@@ -6,4 +6,4 @@ use Rattle.determinism.proofs.settling.look_at_all.Given as goal
 
 -- those of the pairs so far commute
 abbrev pub invariant-loop-pair : goal.invariant-loop-pair
-invariant-loop-pair l = AllByRecursion (PairCommutes (map program_of l.programs)) (take l.pair-index l.pairs)
+invariant-loop-pair l = AllByRecursion (PairCommutes (map program_of l.plan.programs.now)) (take l.pair-index l.pairs)

@@ -9,8 +9,8 @@ use Rattle.determinism.proofs.settling.settle.Goals as goal
 
 pub returns : goal.returns
 returns c = IfOk-weaker c.look_at_all.result _ _ (λ settled is.
-    let es = map program_of c.args.programs.now in
-    let order = c.args.order.now in
+    let es = map program_of c.args.plan.now.programs.now in
+    let order = c.args.plan.now.order.now in
     let pairs = c.as_slice-pairs.result.now in
     let doubtful = subst (AreDoubtful es (comes order)) (sym c.as_slice-pairs.ensures) c.in_ok-doubtful.ensures in
     settled_from es order pairs settled

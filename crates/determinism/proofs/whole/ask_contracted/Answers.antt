@@ -18,8 +18,8 @@ use Rattle.determinism.proofs.whole.ask_contracted.Goals as goal
 
 pub returns : goal.returns
 returns c = IfOk-weaker c.answer_to.result _ _ (λ found is.
-    let es = map program_of c.args.programs.now in
-    let order = c.args.order.now in
+    let es = map program_of c.args.plan.now.programs.now in
+    let order = c.args.plan.now.order.now in
     let before = Told (comes order) in
     let k = c.args.contracted.now in
     let p = c.args.kept.now.pruned in

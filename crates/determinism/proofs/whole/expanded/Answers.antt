@@ -13,18 +13,18 @@ two_orders-tree-requires c =
 
 pub expand-requires : goal.expand-requires
 expand-requires c =
-    left_below (map program_of c.args.programs.now) c.args.order.now c.args.kept.now.pruned c.args.contracted.now c.requires.contracted c.args.witness
+    left_below (map program_of c.args.plan.now.programs.now) c.args.plan.now.order.now c.args.kept.now.pruned c.args.contracted.now c.requires.contracted c.args.witness
     c.two_orders-tree.result.0 c.two_orders-tree.result.1 c.two_orders-tree.result.2 c.as_slice.result.now c.requires.shown c.two_orders-tree.ensures c.as_slice.ensures
 
 pub expand-requires-2 : goal.expand-requires-2
 expand-requires-2 c =
-    right_below (map program_of c.args.programs.now) c.args.order.now c.args.kept.now.pruned c.args.contracted.now c.requires.contracted c.args.witness
+    right_below (map program_of c.args.plan.now.programs.now) c.args.plan.now.order.now c.args.kept.now.pruned c.args.contracted.now c.requires.contracted c.args.witness
     c.two_orders-tree.result.0 c.two_orders-tree.result.1 c.two_orders-tree.result.2 c.as_slice-2.result.now c.requires.shown c.two_orders-tree.ensures c.as_slice-2.ensures
 
 pub returns : goal.returns
 returns c =
-    let es = map program_of c.args.programs.now in
-    let order = c.args.order.now in
+    let es = map program_of c.args.plan.now.programs.now in
+    let order = c.args.plan.now.order.now in
     let p = c.args.kept.now.pruned in
     let k = c.args.contracted.now in
     let law = c.contractions.ensures in

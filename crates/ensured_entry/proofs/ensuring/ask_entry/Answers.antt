@@ -6,24 +6,24 @@ use Rattle.ensured_entry.proofs.ensuring.ask_entry.Goals as goal
 
 pub returns-in-Shown : goal.returns-in-Shown
 returns-in-Shown c =
-    let es = map program_of c.args.programs.now in
-    let order = c.args.order.now in
+    let es = map program_of c.args.plan.now.programs.now in
+    let order = c.args.plan.now.order.now in
     let found = subst (AnswersMissing es order c.args.wanted.now c.args.budget) c.in-Shown.is c.in_ok-answer.ensures in
     failed es order c.args.wanted.now c.args.budget c.args.ordered.pruned c.args.ordered.sure c.requires.judged c.in-Shown.witness found
 
 pub ensure_held-requires-clause-holds : goal.ensure_held-requires-clause-holds
 ensure_held-requires-clause-holds c =
-    let found = subst (AnswersMissing (map program_of c.args.programs.now) c.args.order.now c.args.wanted.now c.args.budget) c.in-Refuted.is c.in_ok-answer.ensures in
+    let found = subst (AnswersMissing (map program_of c.args.plan.now.programs.now) c.args.plan.now.order.now c.args.wanted.now c.args.budget) c.in-Refuted.is c.in_ok-answer.ensures in
     found.0
 
 pub ensure_held-requires-clause-proof : goal.ensure_held-requires-clause-proof
 ensure_held-requires-clause-proof c =
-    let found = subst (AnswersMissing (map program_of c.args.programs.now) c.args.order.now c.args.wanted.now c.args.budget) c.in-Refuted.is c.in_ok-answer.ensures in
+    let found = subst (AnswersMissing (map program_of c.args.plan.now.programs.now) c.args.plan.now.order.now c.args.wanted.now c.args.budget) c.in-Refuted.is c.in_ok-answer.ensures in
     record { states = found.1; no_model = found.2 }
 
 pub returns-in-Spent : goal.returns-in-Spent
 returns-in-Spent c =
-    let es = map program_of c.args.programs.now in
-    let order = c.args.order.now in
+    let es = map program_of c.args.plan.now.programs.now in
+    let order = c.args.plan.now.order.now in
     let found = subst (AnswersMissing es order c.args.wanted.now c.args.budget) c.in-Spent.is c.in_ok-answer.ensures in
     spent_on_entry es order c.args.wanted.now c.args.budget c.args.ordered.pruned c.args.ordered.sure c.requires.judged c.in-Spent.cnf c.in-Spent.log found.0 found.1

@@ -8,8 +8,8 @@ use Rattle.ensured_entry.proofs.ensuring.ensure_held.Goals as goal
 
 pub returns-in-Some : goal.returns-in-Some
 returns-in-Some c =
-    let es = map program_of c.args.programs.now in
-    let order = c.args.order.now in
+    let es = map program_of c.args.plan.now.programs.now in
+    let order = c.args.plan.now.order.now in
     let end = subst (λ o. IfSome o (IsEnd es order)) c.in-Some.is c.requires.end in
-    held_from es order c.args.wanted.now c.args.budget c.args.ordered.pruned c.args.ordered.sure c.requires.judged (length-map c.args.programs.now program_of ∙ c.requires.count) c.args.proof c.in-Some.witness
+    held_from es order c.args.wanted.now c.args.budget c.args.ordered.pruned c.args.ordered.sure c.requires.judged (length-map c.args.plan.now.programs.now program_of ∙ c.args.plan.now.count) c.args.proof c.in-Some.witness
     c.requires.holds c.requires.proof end

@@ -10,8 +10,8 @@ use Rattle.ensured_entry.proofs.missing.ask_run.Goals as goal
 
 pub returns : goal.returns
 returns c = IfOk-weaker c.answer_to.result _ _ (λ found is.
-    let es = map program_of c.args.programs.now in
-    let order = c.args.order.now in
+    let es = map program_of c.args.plan.now.programs.now in
+    let order = c.args.plan.now.order.now in
     let w = c.args.wanted.now in
     let q = c.in_ok-question in
     in_its_words q.question c.args.budget (StatesMissing es order w) (Ensures es (Told (comes order)) w) (IsMissed es order w) q.ensures.states q.ensures.ensured q.ensures.models found is) c.answer_to.ensures

@@ -10,9 +10,9 @@ use Rattle.equal_graphs.proofs.asking.ask_equal.Goals as goal
 
 pub returns : goal.returns
 returns c = IfOk-weaker c.answer_to.result _ _ (λ found is.
-    let es = map program_of c.args.left.now in
-    let fs = map program_of c.args.right.now in
-    let order = c.args.order.now in
-    let other = c.args.other.now in
+    let es = map program_of c.args.left.now.programs.now in
+    let fs = map program_of c.args.right.now.programs.now in
+    let order = c.args.left.now.order.now in
+    let other = c.args.right.now.order.now in
     let q = c.in_ok-question in
     in_its_words q.question c.args.budget (StatesParting es order fs other) (AreEqual es (Told (comes order)) fs (Told (comes other))) (IsParting es order fs other) q.ensures.states q.ensures.equal q.ensures.models found is) c.answer_to.ensures

@@ -10,14 +10,14 @@ use Rattle.equal_graphs.proofs.asking.parting_question.Goals as goal
 
 pub returns-clause-states : goal.returns-clause-states
 returns-clause-states c = IfOk-weaker c.ask_parting.result _ _ (λ q held.
-    let es = map program_of c.args.left.now in
-    let fs = map program_of c.args.right.now in
+    let es = map program_of c.args.left.now.programs.now in
+    let fs = map program_of c.args.right.now.programs.now in
     let first = c.has_first_extension.ensures in
     let second = c.has_first_extension-2.ensures in
     let asked = c.in_ok-asked.asked in
     let f = q.formula in
     let exact = subst (λ q. IsSatisfiable f ↔ HaveParting es asked.left fs q c.args.domain.now) c.as_slice.ensures held in
-    states es c.args.order.now fs c.args.other.now (length-map c.args.left.now program_of ∙ c.requires.left_count) (length-map c.args.right.now program_of ∙ c.requires.right_count)
+    states es c.args.left.now.order.now fs c.args.right.now.order.now (length-map c.args.left.now.programs.now program_of ∙ c.args.left.now.count) (length-map c.args.right.now.programs.now program_of ∙ c.args.right.now.count)
     c.requires.left_sure c.requires.right_sure first.first second.first
     (record { allowed = first.allowed; least = first.least }) (record { allowed = second.allowed; least = second.least })
     asked.left asked.right c.in_ok-asked.ensures.left c.in_ok-asked.ensures.right
@@ -25,14 +25,14 @@ returns-clause-states c = IfOk-weaker c.ask_parting.result _ _ (λ q held.
 
 pub returns-clause-equal : goal.returns-clause-equal
 returns-clause-equal c = IfOk-weaker c.ask_parting.result _ _ (λ q held.
-    let es = map program_of c.args.left.now in
-    let fs = map program_of c.args.right.now in
+    let es = map program_of c.args.left.now.programs.now in
+    let fs = map program_of c.args.right.now.programs.now in
     let first = c.has_first_extension.ensures in
     let second = c.has_first_extension-2.ensures in
     let asked = c.in_ok-asked.asked in
     let f = q.formula in
     let exact = subst (λ q. IsSatisfiable f ↔ HaveParting es asked.left fs q c.args.domain.now) c.as_slice.ensures held in
-    equal es c.args.order.now fs c.args.other.now (length-map c.args.left.now program_of ∙ c.requires.left_count) (length-map c.args.right.now program_of ∙ c.requires.right_count)
+    equal es c.args.left.now.order.now fs c.args.right.now.order.now (length-map c.args.left.now.programs.now program_of ∙ c.args.left.now.count) (length-map c.args.right.now.programs.now program_of ∙ c.args.right.now.count)
     c.requires.left_sure c.requires.right_sure first.first second.first
     (record { allowed = first.allowed; least = first.least }) (record { allowed = second.allowed; least = second.least })
     asked.left asked.right c.in_ok-asked.ensures.left c.in_ok-asked.ensures.right
@@ -40,13 +40,13 @@ returns-clause-equal c = IfOk-weaker c.ask_parting.result _ _ (λ q held.
 
 pub returns-clause-models : goal.returns-clause-models
 returns-clause-models c = IfOk-weaker c.ask_parting.result _ _ (λ q models w told.
-    let es = map program_of c.args.left.now in
-    let fs = map program_of c.args.right.now in
+    let es = map program_of c.args.left.now.programs.now in
+    let fs = map program_of c.args.right.now.programs.now in
     let first = c.has_first_extension.ensures in
     let second = c.has_first_extension-2.ensures in
     let asked = c.in_ok-asked.asked in
     let part = subst (λ q. ShowsParting es asked.left fs q c.args.domain.now w) c.as_slice.ensures (models w told) in
-    shown es c.args.order.now fs c.args.other.now (length-map c.args.left.now program_of ∙ c.requires.left_count) (length-map c.args.right.now program_of ∙ c.requires.right_count)
+    shown es c.args.left.now.order.now fs c.args.right.now.order.now (length-map c.args.left.now.programs.now program_of ∙ c.args.left.now.count) (length-map c.args.right.now.programs.now program_of ∙ c.args.right.now.count)
     c.requires.left_sure c.requires.right_sure first.first second.first
     (record { allowed = first.allowed; least = first.least }) (record { allowed = second.allowed; least = second.least })
     asked.left asked.right c.in_ok-asked.ensures.left c.in_ok-asked.ensures.right c.args.domain.now w part) c.ask_parting.ensures.models

@@ -11,7 +11,7 @@ lines_of-requires-clause-named c =
 
 pub lines_of-requires-clause-places : goal.lines_of-requires-clause-places
 lines_of-requires-clause-places c =
-    subst (λ o. AllByRecursion (λ k. k < length c.args.left.now) o) (sym c.as_slice.ensures) (below _ _ c.in_ok-one.one c.requires.left c.in_ok-one.ensures.allowed.below)
+    subst (λ o. AllByRecursion (λ k. k < length c.args.left.now.programs.now) o) (sym c.as_slice.ensures) (below _ _ c.in_ok-one.one c.args.left.now.count c.in_ok-one.ensures.allowed.below)
 
 pub lines_of-requires-clause-others_named : goal.lines_of-requires-clause-others_named
 lines_of-requires-clause-others_named c =
@@ -19,7 +19,7 @@ lines_of-requires-clause-others_named c =
 
 pub lines_of-requires-clause-other_places : goal.lines_of-requires-clause-other_places
 lines_of-requires-clause-other_places c =
-    subst (λ o. AllByRecursion (λ k. k < length c.args.right.now) o) (sym c.as_slice-2.ensures) (below _ _ c.in_ok-second.second c.requires.right c.in_ok-second.ensures.allowed.below)
+    subst (λ o. AllByRecursion (λ k. k < length c.args.right.now.programs.now) o) (sym c.as_slice-2.ensures) (below _ _ c.in_ok-second.second c.args.right.now.count c.in_ok-second.ensures.allowed.below)
 
 pub returns : goal.returns
 returns c = record {
@@ -29,5 +29,5 @@ returns c = record {
   is_second = record { allowed = c.in_ok-second.ensures.allowed; least = c.in_ok-second.ensures.least };
   status = c.status_of-status.ensures;
   text = c.in_ok-text.ensures
-      ∙ (λ i. lines_of c.args.notes.now c.args.other_notes.now c.args.names.now (map program_of c.args.left.now) (c.as_slice.ensures i) c.args.others.now (map program_of c.args.right.now) (c.as_slice-2.ensures i) c.args.budget c.args.compared.now);
+      ∙ (λ i. lines_of c.args.notes.now c.args.other_notes.now c.args.names.now (map program_of c.args.left.now.programs.now) (c.as_slice.ensures i) c.args.others.now (map program_of c.args.right.now.programs.now) (c.as_slice-2.ensures i) c.args.budget c.args.compared.now);
 }

@@ -9,21 +9,21 @@ use Rattle.equal_report.proofs.telling.told.Goals as goal
 pub report_of-requires-clause-names_told : goal.report_of-requires-clause-names_told
 report_of-requires-clause-names_told c =
     let said = c.in_ok-compared.ensures.compared in
-    tellable c.args.terms.now.given _ _ (map program_of c.args.left.now) c.args.order.now (map program_of c.args.right.now) c.args.other.now (budget_of c.args.terms.now.conflicts)
-    (c.requires.names ∙ sym (length-map c.args.left.now program_of ∙ c.requires.left)) (c.requires.others ∙ sym (length-map c.args.right.now program_of ∙ c.requires.right))
+    tellable c.args.terms.now.given _ _ (map program_of c.args.left.now.programs.now) c.args.left.now.order.now (map program_of c.args.right.now.programs.now) c.args.right.now.order.now (budget_of c.args.terms.now.conflicts)
+    (c.requires.names ∙ sym (length-map c.args.left.now.programs.now program_of ∙ c.args.left.now.count)) (c.requires.others ∙ sym (length-map c.args.right.now.programs.now program_of ∙ c.args.right.now.count))
     c.in_ok-compared.compared said.left said.right
 
 pub report_of-requires-clause-programs_told : goal.report_of-requires-clause-programs_told
 report_of-requires-clause-programs_told c =
     let said = c.in_ok-compared.ensures.compared in
-    tellable c.args.terms.now.given _ _ (map program_of c.args.left.now) c.args.order.now (map program_of c.args.right.now) c.args.other.now (budget_of c.args.terms.now.conflicts)
-    (sym (length-map c.args.left.now program_of)) (sym (length-map c.args.right.now program_of))
+    tellable c.args.terms.now.given _ _ (map program_of c.args.left.now.programs.now) c.args.left.now.order.now (map program_of c.args.right.now.programs.now) c.args.right.now.order.now (budget_of c.args.terms.now.conflicts)
+    (sym (length-map c.args.left.now.programs.now program_of)) (sym (length-map c.args.right.now.programs.now program_of))
     c.in_ok-compared.compared said.left said.right
 
 pub returns-clause-told : goal.returns-clause-told
 returns-clause-told c =
     let said = c.in_ok-compared.ensures in
-    told_is c.args.terms.now c.budget-budget.result c.budget-budget.ensures.budget c.allowed_orders.ensures.long c.args.notes.now c.args.other_notes.now c.args.names.now (map program_of c.args.left.now) c.args.order.now c.args.others.now (map program_of c.args.right.now) c.args.other.now
-    (length-map c.args.left.now program_of ∙ c.requires.left) (length-map c.args.right.now program_of ∙ c.requires.right) c.in_ok-report.report said.within c.in_ok-compared.compared
-    (subst (λ b. IsComparedFrom c.args.terms.now.given (map program_of c.args.left.now) c.args.order.now (map program_of c.args.right.now) c.args.other.now b c.in_ok-compared.compared) (sym c.budget-budget.ensures.budget) said.compared)
+    told_is c.args.terms.now c.budget-budget.result c.budget-budget.ensures.budget c.allowed_orders.ensures.long c.args.notes.now c.args.other_notes.now c.args.names.now (map program_of c.args.left.now.programs.now) c.args.left.now.order.now c.args.others.now (map program_of c.args.right.now.programs.now) c.args.right.now.order.now
+    (length-map c.args.left.now.programs.now program_of ∙ c.args.left.now.count) (length-map c.args.right.now.programs.now program_of ∙ c.args.right.now.count) c.in_ok-report.report said.within c.in_ok-compared.compared
+    (subst (λ b. IsComparedFrom c.args.terms.now.given (map program_of c.args.left.now.programs.now) c.args.left.now.order.now (map program_of c.args.right.now.programs.now) c.args.right.now.order.now b c.in_ok-compared.compared) (sym c.budget-budget.ensures.budget) said.compared)
     c.in_ok-report.ensures

@@ -12,9 +12,9 @@ pub returns-in_ok-line-in-Never : goal.returns-in_ok-line-in-Never
 returns-in_ok-line-in-Never c =
     let given = c.args.given.now in
     let names = c.args.names.now in
-    let es = map program_of c.args.programs.now in
-    let order = c.args.order.now in
-    let never = subst (EndHolds given es order) c.in-Never.is c.requires.holds in
+    let es = map program_of c.args.plan.now.programs.now in
+    let order = c.args.plan.now.order.now in
+    let never = subst (EndHolds given es order) c.in-Never.is c.requires in
     IfOk-weaker c.last_text-in-Never.result _ (IsEnding given names es order)
     (λ last is. ends_never given names es order c.in_ok-line-in-Never.line last never (c.in_ok-line-in-Never.ensures never)
     (is ∙ ap (λ (e : Ends). last_line e ++ c.as_slice.result.now) c.in-Never.is ∙ ap (λ (l : List ℕ). fails_line ++ l) c.as_slice.ensures))

@@ -7,5 +7,5 @@ use Rattle.explain_report.proofs.telling.explain.Goals as goal
 pub explain_sure-requires-clause-holds : goal.explain_sure-requires-clause-holds
 explain_sure-requires-clause-holds c =
     let told = c.in-Judged-default-default-Same-default in
-    end_is_so c.args.terms.now.given c.as_slice-given.result.now (map program_of c.args.programs.now) c.args.order.now (budget_of c.args.terms.now.conflicts) c.args.judged.now
+    end_is_so c.args.terms.now.given c.as_slice-given.result.now (map program_of c.args.plan.now.programs.now) c.args.plan.now.order.now (budget_of c.args.terms.now.conflicts) c.args.judged.now
     told.pruned told.sure told.second told.ends told.is c.as_slice-given.ensures c.requires.verdict

@@ -7,7 +7,7 @@ use Rattle.given_entry.proofs.ensuring.entry_from.Goals as goal
 
 pub returns-then-is_empty : goal.returns-then-is_empty
 returns-then-is_empty c = IfOk-weaker c.ensured_any.result _ _ (λ ensured is.
-    let es = map program_of c.args.programs.now in
-    let order = c.args.order.now in
+    let es = map program_of c.args.plan.now.programs.now in
+    let order = c.args.plan.now.order.now in
     let none = none_given c.args.given.now c.is_empty.result c.is_empty.ensures c.if-is_empty.true in
     subst (λ g. IsEnsuredFrom g es order c.args.wanted.now c.args.budget ensured) (sym none) (ensured_from es order c.args.wanted.now c.args.budget ensured is)) c.ensured_any.ensures

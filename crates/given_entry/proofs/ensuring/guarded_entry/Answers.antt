@@ -20,11 +20,11 @@ ensured_without-requires-clause-fails c = fails_order (map program_of c.as_slice
 
 pub returns : goal.returns
 returns c = IfOk-weaker c.ensured_without.result _ _ (λ without is.
-    let es = map program_of c.args.programs.now in
-    let order = c.args.order.now in
+    let es = map program_of c.args.plan.now.programs.now in
+    let order = c.args.plan.now.order.now in
     let given = c.args.given.now in
     let graph = c.in_ok-graph.graph in
-    let long : length es ≡ order.count = length-map c.args.programs.now program_of ∙ c.requires.count in
+    let long : length es ≡ order.count = length-map c.args.plan.now.programs.now program_of ∙ c.args.plan.now.count in
     let goes = subst (λ n. GoesFirst n (comes order) (guard_before order.count (comes order))) (sym long) (goes_first order.count (comes order)) in
     let same : map program_of c.as_slice.result.now ≡ guarded given es = ap (map program_of) c.as_slice.ensures ∙ c.in_ok-graph.ensures.programs in
     let count : length (guarded given es) ≡ graph.order.count = ap length (sym c.in_ok-graph.ensures.programs) ∙ length-map graph.programs program_of ∙ c.in_ok-graph.ensures.count in

@@ -7,7 +7,7 @@ use Rattle.given_entry.proofs.ensuring.judge_entry_from.Goals as goal
 
 pub returns-in_err-check_size_probed-clause-only : goal.returns-in_err-check_size_probed-clause-only
 returns-in_err-check_size_probed-clause-only c = λ few many light.
-    let es = map program_of c.args.programs.now in
+    let es = map program_of c.args.plan.now.programs.now in
     let terms = c.args.terms.now in
     let same : c.as_slice-given.result.now ≡ terms.given = c.as_slice-given.ensures in
     never c.from_residual.result c.in_err-check_size_probed.field-0.0 c.from_residual.ensures.1

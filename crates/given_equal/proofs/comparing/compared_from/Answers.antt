@@ -7,9 +7,9 @@ use Rattle.given_equal.proofs.comparing.compared_from.Goals as goal
 
 pub returns-then-is_empty : goal.returns-then-is_empty
 returns-then-is_empty c = IfOk-weaker c.compare_any.result _ _ (λ compared is.
-    let es = map program_of c.args.left.now in
-    let fs = map program_of c.args.right.now in
-    let order = c.args.order.now in
-    let other = c.args.other.now in
+    let es = map program_of c.args.left.now.programs.now in
+    let fs = map program_of c.args.right.now.programs.now in
+    let order = c.args.left.now.order.now in
+    let other = c.args.right.now.order.now in
     let none = none_given c.args.given.now c.is_empty.result c.is_empty.ensures c.if-is_empty.true in
     subst (λ g. IsComparedFrom g es order fs other c.args.budget compared) (sym none) (compared_from es order fs other c.args.budget compared is)) c.compare_any.ensures

@@ -19,15 +19,15 @@ compared_without-requires-clause-right c =
 
 pub returns : goal.returns
 returns c = IfOk-weaker c.compared_without.result _ _ (λ without is.
-    let es = map program_of c.args.left.now in
-    let fs = map program_of c.args.right.now in
-    let order = c.args.order.now in
-    let other = c.args.other.now in
+    let es = map program_of c.args.left.now.programs.now in
+    let fs = map program_of c.args.right.now.programs.now in
+    let order = c.args.left.now.order.now in
+    let other = c.args.right.now.order.now in
     let given = c.args.given.now in
     let one = c.in_ok-one.one in
     let second = c.in_ok-second.second in
-    let long : length es ≡ order.count = length-map c.args.left.now program_of ∙ c.requires.left_count in
-    let other_long : length fs ≡ other.count = length-map c.args.right.now program_of ∙ c.requires.right_count in
+    let long : length es ≡ order.count = length-map c.args.left.now.programs.now program_of ∙ c.args.left.now.count in
+    let other_long : length fs ≡ other.count = length-map c.args.right.now.programs.now program_of ∙ c.args.right.now.count in
     let goes = subst (λ n. GoesFirst n (comes order) (guard_before order.count (comes order))) (sym long) (goes_first order.count (comes order)) in
     let other_goes = subst (λ n. GoesFirst n (comes other) (guard_before other.count (comes other))) (sym other_long) (goes_first other.count (comes other)) in
     let side : Side given es order one.order = record {

@@ -8,12 +8,12 @@ use Rattle.given_hosts.proofs.GraphLaws.{longer}
 use Rattle.given_verdict.proofs.GroupLaws.{guard_commutes}
 use Rattle.given_verdict.proofs.again.groups_from.Goals as goal
 
-pub groups_beside-requires-clause-commutes : goal.groups_beside-requires-clause-commutes
-groups_beside-requires-clause-commutes c k low =
+pub groups_beside-requires : goal.groups_beside-requires
+groups_beside-requires c k low =
     let es = map program_of c.args.programs.now in
     let graph = c.args.graph.now in
     let given = c.args.given.now in
-    let programs = ap (map program_of) c.as_slice-all.ensures ∙ c.requires.programs in
+    let programs = ap (map program_of) c.as_slice.ensures ∙ c.requires.programs in
     let number : c.count-guard.result ≡ length es + 1 = c.count-guard.ensures.count ∙ sym c.requires.count ∙ sym (length-map graph.programs program_of) ∙ ap length c.requires.programs ∙ longer given es in
     let last : length es ≡ c.count-guard.result - 1 = omega (arith, number) in
     let first = c.requires.first in

@@ -13,9 +13,9 @@ answer_without-requires c = two_orders (map program_of c.as_slice.result.now) (T
 
 pub returns : goal.returns
 returns c = IfOk-weaker c.answer_without.result _ _ (λ without is.
-    let es = map program_of c.args.programs.now in
-    let order = c.args.order.now in
-    let long : length es ≡ order.count = length-map c.args.programs.now program_of ∙ c.requires.count in
+    let es = map program_of c.args.plan.now.programs.now in
+    let order = c.args.plan.now.order.now in
+    let long : length es ≡ order.count = length-map c.args.plan.now.programs.now program_of ∙ c.args.plan.now.count in
     let goes = subst (λ n. GoesFirst n (comes order) (guard_before order.count (comes order))) (sym long) (c.guards.ensures.goes order.count (comes order)) in
     judged_from c.args.given.now es order long c.requires.given (λ kept k. c.guard_is_pruned.ensures c.args.given.now es (comes order) (guard_before order.count (comes order)) goes kept k)
     (λ kept left k l. (c.pruning.ensures.one es (comes order) k.0 l.0 (up_from 0 (length es)) kept left k.1 l.1).1)

@@ -7,6 +7,6 @@ use Rattle.given_verdict.proofs.judging.judged_from.Goals as goal
 
 pub returns-then-is_empty : goal.returns-then-is_empty
 returns-then-is_empty c = IfOk-weaker c.judged.result _ _ (λ verdict is.
-    let es = map program_of c.args.programs.now in
-    let order = c.args.order.now in
+    let es = map program_of c.args.plan.now.programs.now in
+    let order = c.args.plan.now.order.now in
     subst (λ g. IsVerdictFrom g es order c.args.budget verdict) (sym (none_there c.args.given.now (sym c.is_empty.ensures ∙ c.if-is_empty.true))) (verdict_from es order c.args.budget verdict is)) c.judged.ensures

@@ -10,28 +10,28 @@ use Rattle.kept_graph.proofs.contracted.contract.Goals as goal
 
 pub contracted_programs-requires-clause-first : goal.contracted_programs-requires-clause-first
 contracted_programs-requires-clause-first c =
-    let es = map program_of c.args.programs.now in
-    let before = Told (comes c.args.order.now) in
-    let n = length c.args.programs.now in
+    let es = map program_of c.args.plan.now.programs.now in
+    let before = Told (comes c.args.plan.now.order.now) in
+    let n = length c.args.plan.now.programs.now in
     let is = c.requires.kept.pruned in
     let kept = c.args.kept.now.pruned.kept in
-    let long : length es ≡ n = length-map c.args.programs.now program_of in
-    let leads = c.pruning.ensures.leads es (comes c.args.order.now) is.moves (up_from 0 (length es)) kept is.prunes in
+    let long : length es ≡ n = length-map c.args.plan.now.programs.now program_of in
+    let leads = c.pruning.ensures.leads es (comes c.args.plan.now.order.now) is.moves (up_from 0 (length es)) kept is.prunes in
     subst (AllByRecursion (λ k. k < n)) (sym is.first_is) (firsts_below es before n is.moves (up_from 0 (length es)) kept leads (up_below 0 (length es) n (omega (arith, long))))
 
 pub contracted_programs-requires-clause-last : goal.contracted_programs-requires-clause-last
 contracted_programs-requires-clause-last c =
-    let es = map program_of c.args.programs.now in
-    let before = Told (comes c.args.order.now) in
-    let n = length c.args.programs.now in
+    let es = map program_of c.args.plan.now.programs.now in
+    let before = Told (comes c.args.plan.now.order.now) in
+    let n = length c.args.plan.now.programs.now in
     let is = c.requires.kept.pruned in
     let kept = c.args.kept.now.pruned.kept in
-    let long : length es ≡ n = length-map c.args.programs.now program_of in
-    let leads = c.pruning.ensures.leads es (comes c.args.order.now) is.moves (up_from 0 (length es)) kept is.prunes in
+    let long : length es ≡ n = length-map c.args.plan.now.programs.now program_of in
+    let leads = c.pruning.ensures.leads es (comes c.args.plan.now.order.now) is.moves (up_from 0 (length es)) kept is.prunes in
     subst (AllByRecursion (λ k. k < n)) (sym is.last_is) (lasts_below es before n is.moves (up_from 0 (length es)) kept leads (up_below 0 (length es) n (omega (arith, long))))
 
 pub order_around-requires-clause-within : goal.order_around-requires-clause-within
 order_around-requires-clause-within c =
-    let long = length-map c.args.programs.now program_of ∙ c.requires.count in
-    subst (AllByRecursion (λ k. k < c.args.order.now.count)) (sym c.as_slice.ensures)
+    let long = length-map c.args.plan.now.programs.now program_of ∙ c.args.plan.now.count in
+    subst (AllByRecursion (λ k. k < c.args.plan.now.order.now.count)) (sym c.as_slice.ensures)
     (subst (λ m. AllByRecursion (λ k. k < m) c.args.kept.now.pruned.kept) long c.requires.kept.some.below)

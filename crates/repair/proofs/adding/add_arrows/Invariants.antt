@@ -6,8 +6,8 @@ use Rattle.repair.proofs.adding.add_arrows.Given as goal
 
 abbrev pub invariant-looks : goal.invariant-looks
 invariant-looks l = record {
-  made : IsOrderWith l.order l.arrows l.now;
-  missing : WereMissing (map program_of l.programs) l.order l.arrows;
+  made : IsOrderWith l.plan.order.now l.arrows l.now;
+  missing : WereMissing (map program_of l.plan.programs.now) l.plan.order.now l.arrows;
 }
 
 abbrev pub decreases-looks : goal.decreases-looks

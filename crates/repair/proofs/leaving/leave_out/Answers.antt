@@ -13,16 +13,16 @@ use Rattle.repair.proofs.leaving.leave_out.Goals.{in-Sure, in-Missing+in_ok-need
 
 pub returns-in_default : goal.returns-in_default
 returns-in_default c =
-    let es = map program_of c.args.programs.now in
-    let order = c.args.order.now in
+    let es = map program_of c.args.plan.now.programs.now in
+    let order = c.args.plan.now.order.now in
     let none : c.args.arrows.now ≡ [] = no_items c.args.arrows.now c.in_default.ensures.cases in
     subst (λ xs. IsRepaired es order c.args.budget (repaired.Done xs)) (sym c.new.ensures)
     (none_to_look_at es order c.count.ensures.ordered (subst (WereMissing es order) none c.requires.missing) (subst (λ xs. IsDeterministic es (ComesWith order xs)) none c.requires.deterministic))
 
 pub loop-arrow-init : goal.loop-arrow-init
 loop-arrow-init c =
-    let es = map program_of c.args.programs.now in
-    let order = c.args.order.now in
+    let es = map program_of c.args.plan.now.programs.now in
+    let order = c.args.plan.now.order.now in
     let rest = c.in-Some.earlier.now in
     let last = c.in-Some.last.now in
     let split : c.args.arrows.now ≡ rest ++ last ∷ [] = c.in-Some.ensures.cases.0 in
@@ -32,8 +32,8 @@ loop-arrow-init c =
 
 pub with_arrows-requires-clause-added : goal.with_arrows-requires-clause-added
 with_arrows-requires-clause-added c =
-    let es = map program_of c.args.programs.now in
-    let order = c.args.order.now in
+    let es = map program_of c.args.plan.now.programs.now in
+    let order = c.args.plan.now.order.now in
     let rest = c.in-Some-split_last.others.now in
     let arrow = c.in-Some-split_last.arrow.now in
     let left = subst (λ xs. AreLeft es order c.args.arrows.now xs c.loop-arrow.needed) c.in-Some-split_last.ensures.cases.0 c.loop-arrow.invariant in
@@ -43,8 +43,8 @@ with_arrows-requires-clause-added c =
 
 pub returns-in-Spent : goal.returns-in-Spent
 returns-in-Spent c =
-    let es = map program_of c.args.programs.now in
-    let order = c.args.order.now in
+    let es = map program_of c.args.plan.now.programs.now in
+    let order = c.args.plan.now.order.now in
     let without = c.in_ok-without.without in
     let rest = c.in-Some-split_last.others.now in
     let arrow = c.in-Some-split_last.arrow.now in
@@ -59,8 +59,8 @@ returns-in-Spent c =
 
 pub loop-arrow-preserved : goal.loop-arrow-preserved
 loop-arrow-preserved c =
-    let es = map program_of c.args.programs.now in
-    let order = c.args.order.now in
+    let es = map program_of c.args.plan.now.programs.now in
+    let order = c.args.plan.now.order.now in
     let all = c.args.arrows.now in
     let rest = c.in-Some-split_last.others.now in
     let arrow = c.in-Some-split_last.arrow.now in
@@ -81,8 +81,8 @@ loop-arrow-preserved c =
 
 pub returns : goal.returns
 returns c =
-    let es = map program_of c.args.programs.now in
-    let order = c.args.order.now in
+    let es = map program_of c.args.plan.now.programs.now in
+    let order = c.args.plan.now.order.now in
     let all = c.args.arrows.now in
     let none = no_items c.loop-arrow.rest.now c.in_default-split_last.ensures.cases in
     let some : all ≢ [] = λ e. let f = ap (λ (xs : List (ℕ × ℕ)). length xs) (sym e ∙ c.in-Some.ensures.cases.0) in let g = c.in-Some.ensures.cases.1 in let h = ap (λ (xs : List (ℕ × ℕ)). length xs) e in omega arith in

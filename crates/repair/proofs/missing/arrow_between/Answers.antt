@@ -10,20 +10,20 @@ use Rattle.repair.proofs.missing.arrow_between.Goals as goal
 use Rattle.repair.proofs.missing.arrow_between.Goals.{in-Ended, in-Error}
 
 pub replay-requires : goal.replay-requires
-replay-requires c = subst (λ n. AllByRecursion (λ i. i < n) c.args.left.now) (length-map c.args.programs.now program_of) c.requires.differ.left_allowed.below
+replay-requires c = subst (λ n. AllByRecursion (λ i. i < n) c.args.left.now) (length-map c.args.plan.now.programs.now program_of) c.requires.differ.left_allowed.below
 
 pub unreachable-requires : goal.unreachable-requires
 unreachable-requires c =
     let e = c.requires.exchange in
     c.in_default.not-Some (e.left, e.right)
     (c.first_apart.ensures
-    ∙ apart_there (map program_of c.args.programs.now) c.args.order.now (length-map c.args.programs.now program_of ∙ c.requires.count) c.args.tree.now c.args.left.now c.args.right.now c.requires.differ e)
+    ∙ apart_there (map program_of c.args.plan.now.programs.now) c.args.plan.now.order.now (length-map c.args.plan.now.programs.now program_of ∙ c.args.plan.now.count) c.args.tree.now c.args.left.now c.args.right.now c.requires.differ e)
 
 pub returns : goal.returns
 returns c =
-    let es = map program_of c.args.programs.now in
-    let order = c.args.order.now in
-    let long = length-map c.args.programs.now program_of ∙ c.requires.count in
+    let es = map program_of c.args.plan.now.programs.now in
+    let order = c.args.plan.now.order.now in
+    let long = length-map c.args.plan.now.programs.now program_of ∙ c.args.plan.now.count in
     let found = sym c.in-Some.is ∙ c.first_apart.ensures in
     elim c.match-ended.branch [
       | in-Ended w ↦

@@ -13,15 +13,15 @@ use Rattle.second_runs.proofs.groups.same_in_groups.Goals as goal
 
 pub each_settles-requires-clause-below : goal.each_settles-requires-clause-below
 each_settles-requires-clause-below c =
-    let n = length c.args.programs.now in
+    let n = length c.args.plan.now.programs.now in
     let groups = c.args.groups.now in
-    let below = subst (λ m. AllByRecursion (λ k. k < m) (in_turn groups)) (length-map c.args.programs.now program_of) c.requires.groups.allowed.below in
+    let below = subst (λ m. AllByRecursion (λ k. k < m) (in_turn groups)) (length-map c.args.plan.now.programs.now program_of) c.requires.groups.allowed.below in
     each_below n groups below
 
 pub returns-in-Some-clause-proved : goal.returns-in-Some-clause-proved
 returns-in-Some-clause-proved c =
-    let es = map program_of c.args.programs.now in
-    let order = c.args.order.now in
+    let es = map program_of c.args.plan.now.programs.now in
+    let order = c.args.plan.now.order.now in
     let groups = c.args.groups.now in
     let settle = subst (λ found. IfSome found (λ vs. AllByRecursion (GroupSettles es) groups)) c.in-Some.is c.in_ok-parts.ensures in
     let same = c.settled_groups.ensures.idempotent es (comes order) c.are_proper.ensures c.requires.deterministic groups c.requires.groups.allowed settle c.requires.groups.commute in

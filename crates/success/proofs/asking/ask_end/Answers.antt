@@ -9,7 +9,7 @@ use Rattle.success.proofs.asking.ask_end.Goals as goal
 
 pub returns : goal.returns
 returns c = IfOk-weaker c.answer_to.result _ _ (λ found is.
-    let es = map program_of c.args.programs.now in
-    let order = c.args.order.now in
+    let es = map program_of c.args.plan.now.programs.now in
+    let order = c.args.plan.now.order.now in
     let q = c.in_ok-question in
     in_its_words q.question c.args.budget (StatesEnd es order) (Succeeds es (Told (comes order)) → ⊥) (IsEnd es order) q.ensures.states q.ensures.never q.ensures.models found is) c.answer_to.ensures

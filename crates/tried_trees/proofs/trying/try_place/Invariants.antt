@@ -6,4 +6,4 @@ use Rattle.tried_trees.proofs.trying.try_place.Given as goal
 
 -- the pairs so far were tried
 abbrev pub invariant-loop-pair : goal.invariant-loop-pair
-invariant-loop-pair l = AllByRecursion (IsTried l.place (map program_of l.programs) l.order l.tree) (take l.pair-index l.pairs)
+invariant-loop-pair l = AllByRecursion (IsTried l.place (map program_of l.plan.programs.now) l.plan.order.now l.tree) (take l.pair-index l.pairs)
