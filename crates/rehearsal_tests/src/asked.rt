@@ -2,7 +2,6 @@
 
 use crate::common::{ONE, TWO, Told, compare_text, run_over};
 use std::alloc::Global;
-use std::process::Abort;
 use std::test::Fail;
 
 const NTP: &str =
@@ -389,26 +388,31 @@ fn told_of(alloc: Global, words: &[&str], manifest: &str) -> Result<Told, Fail> 
     run_over(alloc, words, &over)
 }
 
+/// A row is told so with status 0, and refused so with another.
+fn is_told(alloc: Global, status: u8, row: &Row) -> Result<(), Fail> {
+    let told = told_of(alloc, row.0, row.1)?;
+    compare_text(alloc, &told, status, row.2, row.1)
+}
+
 /// Each row is told so with status 0, and refused so with another.
-fn all_told(rt: &(impl Abort + AllocGlobal), status: u8, rows: &[Row]) -> Result<(), Fail> {
-    for (words, manifest, text) in rows {
-        let told = told_of(rt.alloc(), *words, *manifest)?;
-        compare_text(rt, &told, status, *text, *manifest);
+fn all_told(alloc: Global, status: u8, rows: &[Row]) -> Result<(), Fail> {
+    for row in rows {
+        is_told(alloc, status, row)?;
     }
     Ok(())
 }
 
 #[test]
 fn what_is_asked(rt: HostRuntime) -> Result<(), Fail> {
-    all_told(&rt, 0, &ROWS)
+    all_told(rt.alloc(), 0, &ROWS)
 }
 
 #[test]
 fn outcomes_of_runs(rt: HostRuntime) -> Result<(), Fail> {
-    all_told(&rt, 0, &RUNS)
+    all_told(rt.alloc(), 0, &RUNS)
 }
 
 #[test]
 fn what_is_refused(rt: HostRuntime) -> Result<(), Fail> {
-    all_told(&rt, 4, &REFUSED)
+    all_told(rt.alloc(), 4, &REFUSED)
 }

@@ -1,10 +1,10 @@
 //! What is assumed of the resources of a compiled catalog: what is told of it, and which texts of it are refused.
 
-use crate::common::{Told, compare_status};
+use crate::common::{Told, compare_refusal, compare_status, holds};
 use crate::compiled::{Differing, MOTD, Res, all_differ, asked, catalog, is_refused, is_told};
 use std::alloc::Global;
-use std::process::Abort;
 use std::test::Fail;
+use test_rows::joined;
 
 const VERIFY: &[&str] = &["--compiled", "c", "--assume", "assumed"];
 
@@ -333,18 +333,23 @@ const ROWS: [Row; 25] = [
     ),
 ];
 
+/// A row is told so.
+fn row_is_told(alloc: Global, row: &Row) -> Result<(), Fail> {
+    let text = catalog(alloc, row.1, &[])?;
+    is_told(alloc, row.0, text.as_str(), row.2, row.3)
+}
+
 /// Each row is told so.
-fn all_told(rt: &(impl Abort + AllocGlobal), rows: &[Row]) -> Result<(), Fail> {
-    for (words, all, assumed, report) in rows {
-        let text = catalog(rt.alloc(), *all, &[])?;
-        is_told(rt, *words, text.as_str(), *assumed, *report, *assumed)?;
+fn all_told(alloc: Global, rows: &[Row]) -> Result<(), Fail> {
+    for row in rows {
+        row_is_told(alloc, row)?;
     }
     Ok(())
 }
 
 #[test]
 fn what_is_told_where_something_is_assumed(rt: HostRuntime) -> Result<(), Fail> {
-    all_told(&rt, &ROWS)
+    all_told(rt.alloc(), &ROWS)
 }
 
 const DIFFER: [Differing; 3] = [
@@ -372,7 +377,7 @@ const DIFFER: [Differing; 3] = [
 
 #[test]
 fn orders_that_matter(rt: HostRuntime) -> Result<(), Fail> {
-    all_differ(&rt, &DIFFER)
+    all_differ(rt.alloc(), &DIFFER)
 }
 
 /// Texts of no assumptions.
@@ -405,22 +410,29 @@ const TEXTS: [&str; 25] = [
     r#"{"version":1,"resources":{"Nothing[x]":{"needs":[7]}}}"#,
 ];
 
+/// A text is refused beside this catalog.
+fn text_is_refused(alloc: Global, catalog: &str, text: &str) -> Result<(), Fail> {
+    let told = asked(alloc, VERIFY, catalog, text)?;
+    compare_refusal(alloc, &told, "66 at 0: assume", text)
+}
+
 /// Each of these texts is refused beside this catalog.
-fn texts_are_refused(
-    rt: &(impl Abort + AllocGlobal),
-    catalog: &str,
-    texts: &[&str],
-) -> Result<(), Fail> {
+fn all_refused_beside(alloc: Global, catalog: &str, texts: &[&str]) -> Result<(), Fail> {
     for text in texts {
-        is_refused(rt, VERIFY, catalog, *text, "66 at 0: assume", *text)?;
+        text_is_refused(alloc, catalog, *text)?;
     }
     Ok(())
 }
 
+/// Each of these texts is refused beside the catalog of one file.
+fn texts_are_refused(alloc: Global, texts: &[&str]) -> Result<(), Fail> {
+    let catalog = catalog(alloc, &[MOTD], &[])?;
+    all_refused_beside(alloc, catalog.as_str(), texts)
+}
+
 #[test]
 fn texts_of_no_assumptions(rt: HostRuntime) -> Result<(), Fail> {
-    let catalog = catalog(rt.alloc(), &[MOTD], &[])?;
-    texts_are_refused(&rt, catalog.as_str(), &TEXTS)
+    texts_are_refused(rt.alloc(), &TEXTS)
 }
 
 /// Where a resource is declared.
@@ -548,56 +560,60 @@ const REFUSED: [Row; 12] = [
     (HELD, &[HOSTS, HOSTS], EDITS, "65 at 0: compiled"),
 ];
 
+/// A row is refused so.
+fn row_is_refused(alloc: Global, row: &Row) -> Result<(), Fail> {
+    let text = catalog(alloc, row.1, &[])?;
+    is_refused(alloc, row.0, text.as_str(), row.2, row.3)
+}
+
 /// Each row is refused so.
-fn all_refused(rt: &(impl Abort + AllocGlobal), rows: &[Row]) -> Result<(), Fail> {
-    for (words, all, assumed, line) in rows {
-        let text = catalog(rt.alloc(), *all, &[])?;
-        is_refused(rt, *words, text.as_str(), *assumed, *line, text.as_str())?;
+fn all_refused(alloc: Global, rows: &[Row]) -> Result<(), Fail> {
+    for row in rows {
+        row_is_refused(alloc, row)?;
     }
     Ok(())
 }
 
 #[test]
 fn what_is_refused_where_something_is_assumed(rt: HostRuntime) -> Result<(), Fail> {
-    all_refused(&rt, &REFUSED)
+    all_refused(rt.alloc(), &REFUSED)
 }
 
 /// A resource with a title of so many bytes: `Exec[` and `]` are six more.
 fn with_title(alloc: Global, length: usize) -> Result<String, Fail> {
     let title = "x".repeat(alloc, length)?;
-    Ok(format!(in alloc;
-        r#"{{"catalog_format":2,"resources":[{{"type":"Exec","title":"{}","kind":"compilable_type"}}],"edges":[]}}"#,
-        title.as_str()
+    Ok(joined(
+        alloc,
+        &[
+            r#"{"catalog_format":2,"resources":[{"type":"Exec","title":""#,
+            title.as_str(),
+            r#"","kind":"compilable_type"}],"edges":[]}"#,
+        ],
     )?)
 }
 
-/// Whether the reference is refused.
-fn names_reference(rt: &impl Abort, told: &Told, want: bool, row: &str) {
-    assert_eq!(rt;
-        told.err.as_str().contains("52 at 0: Exec[x"),
-        want,
-        "{row}"
-    );
+/// This was told with the status, and with status 4 the reference is refused.
+fn tells_reference(alloc: Global, told: &Told, status: u8, row: &str) -> Result<(), Fail> {
+    compare_status(alloc, told, status, row)?;
+    let is_named = told.err.as_str().contains("52 at 0: Exec[x");
+    holds(alloc, &[row], is_named == (status == 4))
 }
 
-/// This is told with the status, and with status 4 the reference is refused.
-fn is_long(
-    rt: &(impl Abort + AllocGlobal),
-    catalog: &str,
-    assumed: &str,
-    status: u8,
-) -> Result<(), Fail> {
-    let told = asked(rt.alloc(), VERIFY, catalog, assumed)?;
-    compare_status(rt, &told, status, assumed);
-    names_reference(rt, &told, status == 4, assumed);
-    Ok(())
+fn is_long(alloc: Global, catalog: &str, assumed: &str, status: u8) -> Result<(), Fail> {
+    let told = asked(alloc, VERIFY, catalog, assumed)?;
+    tells_reference(alloc, &told, status, assumed)
+}
+
+/// With a title of so many bytes, this is told with the status.
+fn title_is_long(alloc: Global, length: usize, assumed: &str, status: u8) -> Result<(), Fail> {
+    let text = with_title(alloc, length)?;
+    is_long(alloc, text.as_str(), assumed, status)
 }
 
 /// Each row: how long a title is, what is assumed, and the status.
-fn all_long(rt: &(impl Abort + AllocGlobal), rows: &[(usize, &str, u8)]) -> Result<(), Fail> {
+fn all_long(alloc: Global, rows: &[(usize, &str, u8)]) -> Result<(), Fail> {
     for (length, assumed, status) in rows {
-        let text = with_title(rt.alloc(), *length)?;
-        is_long(rt, text.as_str(), *assumed, *status)?;
+        title_is_long(alloc, *length, *assumed, *status)?;
     }
     Ok(())
 }
@@ -606,7 +622,7 @@ fn all_long(rt: &(impl Abort + AllocGlobal), rows: &[(usize, &str, u8)]) -> Resu
 #[test]
 fn references_that_are_long(rt: HostRuntime) -> Result<(), Fail> {
     all_long(
-        &rt,
+        rt.alloc(),
         &[
             (
                 249,

@@ -1,7 +1,7 @@
 //! Texts of proofs that are checked.
 
 use crate::common::{compare, compare_text, run};
-use std::process::Abort;
+use std::alloc::Global;
 use std::test::Fail;
 use test_rows::PIGEONS;
 
@@ -9,16 +9,27 @@ const ASKED: &[&str] = &["--ask", "check", "site.pp"];
 
 const TURNED: &[&str] = &["site.pp", "--ask=check"];
 
+/// A text of proofs gives the report with status 0, or the refusal with another.
+fn is_checked(
+    alloc: Global,
+    words: &[&str],
+    status: u8,
+    text: &str,
+    want: &str,
+) -> Result<(), Fail> {
+    let told = run(alloc, words, text.as_bytes())?;
+    compare_text(alloc, &told, status, want, text)
+}
+
 /// Each row: a text of proofs, and the report with status 0 or the refusal with another.
 fn all_checked(
-    rt: &(impl Abort + AllocGlobal),
+    alloc: Global,
     words: &[&str],
     status: u8,
     rows: &[(&str, &str)],
 ) -> Result<(), Fail> {
     for (text, want) in rows {
-        let told = run(rt.alloc(), words, text.as_bytes())?;
-        compare_text(rt, &told, status, *want, *text);
+        is_checked(alloc, words, status, *text, *want)?;
     }
     Ok(())
 }
@@ -26,7 +37,7 @@ fn all_checked(
 #[test]
 fn proofs_that_are_verified(rt: HostRuntime) -> Result<(), Fail> {
     all_checked(
-        &rt,
+        rt.alloc(),
         ASKED,
         0,
         &[
@@ -40,21 +51,21 @@ fn proofs_that_are_verified(rt: HostRuntime) -> Result<(), Fail> {
     )
 }
 
+/// The proof that three pigeons have no two holes, without a literal of one resolvent, is refused so.
+fn cut_is_refused(alloc: Global, line: &str) -> Result<(), Fail> {
+    let cut = PIGEONS.replace(alloc, "\n-1 0 9", "\n0 9")?;
+    is_checked(alloc, TURNED, 4, cut.as_str(), line)
+}
+
 #[test]
 fn a_resolvent_without_its_literal(rt: HostRuntime) -> Result<(), Fail> {
-    let cut = PIGEONS.replace(rt.alloc(), "\n-1 0 9", "\n0 9")?;
-    all_checked(
-        &rt,
-        TURNED,
-        4,
-        &[(cut.as_str(), "refused 81 at 0: proof 1 step 1\n")],
-    )
+    cut_is_refused(rt.alloc(), "refused 81 at 0: proof 1 step 1\n")
 }
 
 #[test]
 fn texts_that_are_refused(rt: HostRuntime) -> Result<(), Fail> {
     all_checked(
-        &rt,
+        rt.alloc(),
         TURNED,
         4,
         &[
@@ -90,11 +101,16 @@ fn texts_that_are_refused(rt: HostRuntime) -> Result<(), Fail> {
     )
 }
 
+/// These bytes are a text of no proofs.
+fn is_without_proofs(alloc: Global, text: &[u8]) -> Result<(), Fail> {
+    let told = run(alloc, ASKED, text)?;
+    compare(alloc, &told, 0, "verified 0\n", "", "a comment")
+}
+
 /// Each of these bytes is a text of no proofs.
-fn all_without_proofs(rt: &(impl Abort + AllocGlobal), rows: &[&[u8]]) -> Result<(), Fail> {
+fn all_without_proofs(alloc: Global, rows: &[&[u8]]) -> Result<(), Fail> {
     for text in rows {
-        let told = run(rt.alloc(), ASKED, *text)?;
-        compare(rt, &told, 0, "verified 0\n", "", "a comment");
+        is_without_proofs(alloc, *text)?;
     }
     Ok(())
 }
@@ -102,7 +118,7 @@ fn all_without_proofs(rt: &(impl Abort + AllocGlobal), rows: &[&[u8]]) -> Result
 #[test]
 fn only_a_line_feed_ends_a_comment(rt: HostRuntime) -> Result<(), Fail> {
     all_without_proofs(
-        &rt,
+        rt.alloc(),
         &[
             b"c \xff\nproofs 0",
             b"c a\rproofs 1\nproofs 0",

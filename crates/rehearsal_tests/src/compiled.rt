@@ -1,9 +1,12 @@
 //! Catalogs that Puppet compiled, in place of manifests: what is told of them.
 
-use crate::common::{NONE, ONE, TWO, Told, compare, compare_head, compare_refusal, run_over};
+use crate::common::{
+    NONE, ONE, TWO, Told, begins, compare, compare_head, compare_refusal, compare_status, holds,
+    push_all, run_over,
+};
 use std::alloc::Global;
-use std::process::Abort;
 use std::test::Fail;
+use test_rows::joined;
 
 /// A resource: its type, its title, its parameters as members of JSON, and what else the text says of it, behind a comma.
 pub type Res = (&'static str, &'static str, &'static str, &'static str);
@@ -16,55 +19,82 @@ const LISTING: &str = concat!(
     r#""p":{"files":[["/etc/p",null]],"folders":[]},"cron":{"files":[["/lib/systemd/system/cron.service",null]],"folders":[]}}}"#
 );
 
-fn resource(alloc: Global, r: &Res) -> Result<String, Fail> {
-    let (kind, title, parameters, more) = *r;
-    Ok(format!(in alloc;
-        r#"{{"type":"{kind}","title":"{title}","kind":"compilable_type","parameters":{{{parameters}}}{more}}}"#
-    )?)
-}
-
-/// Adds one behind those of a list in JSON.
-pub fn push_listed(list: &mut String, one: &str) -> Result<(), Fail> {
+/// Adds a comma behind those of a list in JSON.
+pub fn push_comma(list: &mut String) -> Result<(), Fail> {
     if !list.is_empty() {
         list.push(',')?;
     }
-    list.push_str(one)?;
     Ok(())
+}
+
+/// Adds a resource behind those of a list in JSON.
+fn push_resource(list: &mut String, r: &Res) -> Result<(), Fail> {
+    push_comma(list)?;
+    push_all(
+        list,
+        &[
+            r#"{"type":""#,
+            r.0,
+            r#"","title":""#,
+            r.1,
+            r#"","kind":"compilable_type","parameters":{"#,
+            r.2,
+            "}",
+            r.3,
+            "}",
+        ],
+    )
 }
 
 fn resources(alloc: Global, all: &[Res]) -> Result<String, Fail> {
     let mut text = String::new(alloc);
     for r in all {
-        let one = resource(alloc, r)?;
-        push_listed(&mut text, one.as_str())?;
+        push_resource(&mut text, r)?;
     }
     Ok(text)
 }
 
-fn edge(alloc: Global, e: &Edge) -> Result<String, Fail> {
-    let (source, target) = *e;
-    Ok(format!(in alloc; r#"{{"source":"{source}","target":"{target}"}}"#)?)
+/// Adds an edge behind those of a list in JSON.
+fn push_edge(list: &mut String, e: &Edge) -> Result<(), Fail> {
+    push_comma(list)?;
+    push_all(
+        list,
+        &[r#"{"source":""#, e.0, r#"","target":""#, e.1, r#""}"#],
+    )
 }
 
 fn edges(alloc: Global, all: &[Edge]) -> Result<String, Fail> {
     let mut text = String::new(alloc);
     for e in all {
-        let one = edge(alloc, e)?;
-        push_listed(&mut text, one.as_str())?;
+        push_edge(&mut text, e)?;
     }
     Ok(text)
 }
 
 /// The text of a compiled catalog that has resources and edges, as they stand in JSON.
 pub fn catalog_with(alloc: Global, resources: &str, edges: &str) -> Result<String, Fail> {
-    Ok(format!(in alloc; r#"{{"catalog_format":2,"resources":[{resources}],"edges":[{edges}]}}"#)?)
+    Ok(joined(
+        alloc,
+        &[
+            r#"{"catalog_format":2,"resources":["#,
+            resources,
+            r#"],"edges":["#,
+            edges,
+            "]}",
+        ],
+    )?)
+}
+
+/// The text of a compiled catalog that has edges and these resources, as they stand in JSON.
+fn with_edges(alloc: Global, resources: &str, held: &[Edge]) -> Result<String, Fail> {
+    let edges = edges(alloc, held)?;
+    catalog_with(alloc, resources, edges.as_str())
 }
 
 /// The text of a compiled catalog.
 pub fn catalog(alloc: Global, all: &[Res], held: &[Edge]) -> Result<String, Fail> {
     let resources = resources(alloc, all)?;
-    let edges = edges(alloc, held)?;
-    catalog_with(alloc, resources.as_str(), edges.as_str())
+    with_edges(alloc, resources.as_str(), held)
 }
 
 /// What words give over a compiled catalog, and what is assumed of its resources.
@@ -90,29 +120,26 @@ pub fn asked<'a>(
 
 /// Words over the text of a compiled catalog, and what is assumed, are told so with status 0.
 pub fn is_told(
-    rt: &(impl Abort + AllocGlobal),
+    alloc: Global,
     words: &[&str],
     catalog: &str,
     assumed: &str,
     report: &str,
-    row: &str,
 ) -> Result<(), Fail> {
-    let told = asked(rt.alloc(), words, catalog, assumed)?;
-    compare(rt, &told, 0, report, "", row);
-    Ok(())
+    let told = asked(alloc, words, catalog, assumed)?;
+    compare(alloc, &told, 0, report, "", catalog)
 }
 
 /// Words over the text of a compiled catalog, and what is assumed, are refused so.
 pub fn is_refused(
-    rt: &(impl Abort + AllocGlobal),
+    alloc: Global,
     words: &[&str],
     catalog: &str,
     assumed: &str,
     line: &str,
-    row: &str,
 ) -> Result<(), Fail> {
-    let told = asked(rt.alloc(), words, catalog, assumed)?;
-    compare_refusal(rt, &told, line, row)
+    let told = asked(alloc, words, catalog, assumed)?;
+    compare_refusal(alloc, &told, line, catalog)
 }
 
 pub const VERIFY: &[&str] = &["--compiled", "c", "--packages", "listing"];
@@ -508,18 +535,23 @@ const ROWS: [Row; 24] = [
     ),
 ];
 
+/// A row is told so.
+fn row_is_told(alloc: Global, row: &Row) -> Result<(), Fail> {
+    let text = catalog(alloc, row.1, row.2)?;
+    is_told(alloc, row.0, text.as_str(), "", row.3)
+}
+
 /// Each row is told so.
-fn all_told(rt: &(impl Abort + AllocGlobal), rows: &[Row]) -> Result<(), Fail> {
-    for (words, all, held, report) in rows {
-        let text = catalog(rt.alloc(), *all, *held)?;
-        is_told(rt, *words, text.as_str(), "", *report, text.as_str())?;
+fn all_told(alloc: Global, rows: &[Row]) -> Result<(), Fail> {
+    for row in rows {
+        row_is_told(alloc, row)?;
     }
     Ok(())
 }
 
 #[test]
 fn what_is_told_of_compiled_catalogs(rt: HostRuntime) -> Result<(), Fail> {
-    all_told(&rt, &ROWS)
+    all_told(rt.alloc(), &ROWS)
 }
 
 /// The words, the resources, what is assumed, and the lines in front of the tree.
@@ -531,23 +563,27 @@ pub type Differing = (
 );
 
 /// Words over the text of a compiled catalog, and what is assumed, are told with status 1 and these lines in front.
-fn differs(
-    rt: &(impl Abort + AllocGlobal),
+fn is_told_apart(
+    alloc: Global,
     words: &[&str],
     catalog: &str,
     assumed: &str,
     head: &str,
 ) -> Result<(), Fail> {
-    let told = asked(rt.alloc(), words, catalog, assumed)?;
-    compare_head(rt, &told, 1, head, catalog);
-    Ok(())
+    let told = asked(alloc, words, catalog, assumed)?;
+    compare_head(alloc, &told, 1, head, catalog)
+}
+
+/// A row is told with status 1.
+fn differs(alloc: Global, row: &Differing) -> Result<(), Fail> {
+    let text = catalog(alloc, row.1, &[])?;
+    is_told_apart(alloc, row.0, text.as_str(), row.2, row.3)
 }
 
 /// Each row is told with status 1.
-pub fn all_differ(rt: &(impl Abort + AllocGlobal), rows: &[Differing]) -> Result<(), Fail> {
-    for (words, all, assumed, head) in rows {
-        let text = catalog(rt.alloc(), *all, &[])?;
-        differs(rt, *words, text.as_str(), *assumed, *head)?;
+pub fn all_differ(alloc: Global, rows: &[Differing]) -> Result<(), Fail> {
+    for row in rows {
+        differs(alloc, row)?;
     }
     Ok(())
 }
@@ -575,24 +611,36 @@ const DIFFER: [Differing; 3] = [
 
 #[test]
 fn orders_that_matter(rt: HostRuntime) -> Result<(), Fail> {
-    all_differ(&rt, &DIFFER)
+    all_differ(rt.alloc(), &DIFFER)
 }
 
-/// The path at which two orders of this catalog differ is the target of the link.
-fn place_is_told(rt: &(impl Abort + AllocGlobal), catalog: &str) -> Result<(), Fail> {
-    let told = asked(rt.alloc(), EXPLAIN_LINKED, catalog, "")?;
-    assert_eq!(rt; told.status, 1);
+/// The path that was told, at which two orders differ, is this one.
+fn tells_place(alloc: Global, told: &Told, place: &str) -> Result<(), Fail> {
+    compare_status(alloc, told, 1, place)?;
     let (_, at) = told.out.as_str().split_once("\nat ").unwrap_or(("", "?"));
-    let place = "\"/usr/lib/systemd/system/cron.service\": ";
-    assert!(rt; at.starts_with(place), "{at}");
-    Ok(())
+    begins(alloc, "at", at, place)
 }
 
-/// The path at which two names of one place differ.
+/// The path at which two orders of the catalog with this text differ.
+fn place_is_told(alloc: Global, catalog: &str, place: &str) -> Result<(), Fail> {
+    let told = asked(alloc, EXPLAIN_LINKED, catalog, "")?;
+    tells_place(alloc, &told, place)
+}
+
+/// The path at which two orders of a catalog of these resources differ.
+fn differ_at(alloc: Global, all: &[Res], place: &str) -> Result<(), Fail> {
+    let text = catalog(alloc, all, &[])?;
+    place_is_told(alloc, text.as_str(), place)
+}
+
+/// The path at which two names of one place differ is the target of the link.
 #[test]
 fn one_place_under_two_names(rt: HostRuntime) -> Result<(), Fail> {
-    let text = catalog(rt.alloc(), UNIT, &[])?;
-    place_is_told(&rt, text.as_str())
+    differ_at(
+        rt.alloc(),
+        UNIT,
+        "\"/usr/lib/systemd/system/cron.service\": ",
+    )
 }
 
 /// A resource, and how the run ends in which it comes first.
@@ -607,39 +655,56 @@ const FILE_FAILS: Run = (
 const PACKAGE_ENDS: Run = ("Package[ntp] (/m/ntp.pp:1)", "ends");
 
 fn explained(alloc: Global, first: &Run, second: &Run) -> Result<String, Fail> {
-    let (a, how) = *first;
-    let (b, other) = *second;
-    Ok(format!(in alloc;
-        "resources 3\npruned 1\nnot deterministic\nexchanged {a} and {b}\ntree {{}}\n{a} first: {how}\n{b} first: {other}\n"
+    Ok(joined(
+        alloc,
+        &[
+            "resources 3\npruned 1\nnot deterministic\nexchanged ",
+            first.0,
+            " and ",
+            second.0,
+            "\ntree {}\n",
+            first.0,
+            " first: ",
+            first.1,
+            "\n",
+            second.0,
+            " first: ",
+            second.1,
+            "\n",
+        ],
     )?)
 }
 
 /// What was told explains these runs, in this order.
-fn is_explained(
-    rt: &(impl Abort + AllocGlobal),
-    told: &Told,
-    first: &Run,
-    second: &Run,
-) -> Result<(), Fail> {
-    let want = explained(rt.alloc(), first, second)?;
-    compare(rt, told, 1, want.as_str(), "", "lines");
-    Ok(())
+fn is_explained(alloc: Global, told: &Told, first: &Run, second: &Run) -> Result<(), Fail> {
+    let want = explained(alloc, first, second)?;
+    compare(alloc, told, 1, want.as_str(), "", "lines")
 }
 
-/// Both runs of this catalog are explained; which order is told first is free.
-fn runs_are_explained(rt: &(impl Abort + AllocGlobal), catalog: &str) -> Result<(), Fail> {
-    let told = asked(rt.alloc(), EXPLAIN, catalog, "")?;
+/// What was told explains both runs; which order is told first is free.
+fn tells_runs(alloc: Global, told: &Told) -> Result<(), Fail> {
     if told.out.as_str().contains("exchanged Package") {
-        is_explained(rt, &told, &PACKAGE_ENDS, &FILE_FAILS)
+        is_explained(alloc, told, &PACKAGE_ENDS, &FILE_FAILS)
     } else {
-        is_explained(rt, &told, &FILE_FAILS, &PACKAGE_ENDS)
+        is_explained(alloc, told, &FILE_FAILS, &PACKAGE_ENDS)
     }
+}
+
+/// Both runs of the catalog with this text are explained.
+fn runs_are_told(alloc: Global, catalog: &str) -> Result<(), Fail> {
+    let told = asked(alloc, EXPLAIN, catalog, "")?;
+    tells_runs(alloc, &told)
+}
+
+/// Both runs of a catalog of these resources are explained.
+fn runs_are_explained(alloc: Global, all: &[Res]) -> Result<(), Fail> {
+    let text = catalog(alloc, all, &[])?;
+    runs_are_told(alloc, text.as_str())
 }
 
 #[test]
 fn explanations_tell_lines(rt: HostRuntime) -> Result<(), Fail> {
-    let text = catalog(rt.alloc(), &[NTP, NTP_CONF, SERVICE], &[])?;
-    runs_are_explained(&rt, text.as_str())
+    runs_are_explained(rt.alloc(), &[NTP, NTP_CONF, SERVICE])
 }
 
 const MANIFEST: &str =
@@ -682,37 +747,42 @@ fn words_for<'w>(ask: &'w str, option: &'w str, name: &'w str) -> [&'w str; 6] {
 }
 
 /// With this value of `--ask` this is told of a compiled catalog.
-fn catalog_is_told(
-    rt: &(impl Abort + AllocGlobal),
-    ask: &str,
-    catalog: &str,
-    report: &str,
-) -> Result<(), Fail> {
-    let told = told_of(rt.alloc(), &words_for(ask, "--compiled", "c"), catalog)?;
-    compare(rt, &told, 0, report, "", ask);
+fn catalog_is_told(alloc: Global, ask: &str, catalog: &str, report: &str) -> Result<(), Fail> {
+    let told = told_of(alloc, &words_for(ask, "--compiled", "c"), catalog)?;
+    compare(alloc, &told, 0, report, "", ask)
+}
+
+/// Something was told of the manifest, and the same is told of a compiled catalog.
+fn tells_alike(alloc: Global, told: &Told, ask: &str, catalog: &str) -> Result<(), Fail> {
+    holds(alloc, &["something, ", ask], !told.out.is_empty())?;
+    catalog_is_told(alloc, ask, catalog, told.out.as_str())
+}
+
+/// With this value of `--ask` the same is told of a compiled catalog and of the manifest.
+fn is_told_alike(alloc: Global, catalog: &str, ask: &str) -> Result<(), Fail> {
+    let told = told_of(alloc, &words_for(ask, "--", "site.pp"), catalog)?;
+    tells_alike(alloc, &told, ask, catalog)
+}
+
+fn all_told_of(alloc: Global, catalog: &str, asks: &[&str]) -> Result<(), Fail> {
+    for ask in asks {
+        is_told_alike(alloc, catalog, *ask)?;
+    }
     Ok(())
 }
 
-/// With each of these values of `--ask` the same is told of a compiled catalog and of the manifest.
-fn all_told_alike(
-    rt: &(impl Abort + AllocGlobal),
-    catalog: &str,
-    asks: &[&str],
-) -> Result<(), Fail> {
-    for ask in asks {
-        let told = told_of(rt.alloc(), &words_for(*ask, "--", "site.pp"), catalog)?;
-        catalog_is_told(rt, *ask, catalog, told.out.as_str())?;
-    }
-    Ok(())
+/// With each of these values of `--ask` the same is told of the manifest and of a compiled catalog of these resources.
+fn all_told_alike(alloc: Global, all: &[Res], asks: &[&str]) -> Result<(), Fail> {
+    let text = catalog(alloc, all, &[])?;
+    all_told_of(alloc, text.as_str(), asks)
 }
 
 /// A manifest and what Puppet makes of it: what is told is the same, but for proofs and explanations, which have places.
 #[test]
 fn a_manifest_and_its_catalog(rt: HostRuntime) -> Result<(), Fail> {
-    let text = catalog(rt.alloc(), COMPILED, &[])?;
     all_told_alike(
-        &rt,
-        text.as_str(),
+        rt.alloc(),
+        COMPILED,
         &["verify", "proof", "graph", "programs", "replay", "repair"],
     )
 }

@@ -3,7 +3,6 @@
 use crate::common::{Told, compare_err, compare_head, compare_text, run_over};
 use crate::compiled::{MOTD, Res, catalog};
 use std::alloc::Global;
-use std::process::Abort;
 use std::test::Fail;
 
 const ASKED: &[&str] = &["--ask", "equal", "--compiled", "c", "--other", "old"];
@@ -139,18 +138,23 @@ fn of_both(alloc: Global, row: &Row) -> Result<Told, Fail> {
     beside(alloc, row, text.as_str())
 }
 
+/// This is told of both catalogs of a row with status 0, or refused with another.
+fn is_told(alloc: Global, status: u8, row: &Row, text: &str) -> Result<(), Fail> {
+    let told = of_both(alloc, row)?;
+    compare_text(alloc, &told, status, text, text)
+}
+
 /// Each row is told so with status 0, and refused so with another.
-fn all_told(rt: &(impl Abort + AllocGlobal), status: u8, rows: &[(Row, &str)]) -> Result<(), Fail> {
+fn all_told(alloc: Global, status: u8, rows: &[(Row, &str)]) -> Result<(), Fail> {
     for (row, text) in rows {
-        let told = of_both(rt.alloc(), row)?;
-        compare_text(rt, &told, status, *text, *text);
+        is_told(alloc, status, row, *text)?;
     }
     Ok(())
 }
 
 #[test]
 fn compiled_catalogs_that_do_the_same(rt: HostRuntime) -> Result<(), Fail> {
-    all_told(&rt, 0, &SAME)
+    all_told(rt.alloc(), 0, &SAME)
 }
 
 /// What is told with status 10 or 1, ahead of the tree.
@@ -204,19 +208,29 @@ const OTHERWISE: [(Row, u8, &str); 5] = [
     ),
 ];
 
+/// These lines were told in front, on out alone.
+fn tells(alloc: Global, told: &Told, status: u8, head: &str) -> Result<(), Fail> {
+    compare_head(alloc, told, status, head, head)?;
+    compare_err(alloc, told, "", head)
+}
+
+/// Both catalogs of a row are told with the status and these lines in front.
+fn differ(alloc: Global, row: &Row, status: u8, head: &str) -> Result<(), Fail> {
+    let told = of_both(alloc, row)?;
+    tells(alloc, &told, status, head)
+}
+
 /// Each row is told with its status and these lines in front.
-fn all_differ(rt: &(impl Abort + AllocGlobal), rows: &[(Row, u8, &str)]) -> Result<(), Fail> {
+fn all_differ(alloc: Global, rows: &[(Row, u8, &str)]) -> Result<(), Fail> {
     for (row, status, head) in rows {
-        let told = of_both(rt.alloc(), row)?;
-        compare_head(rt, &told, *status, *head, *head);
-        compare_err(rt, &told, "", *head);
+        differ(alloc, row, *status, *head)?;
     }
     Ok(())
 }
 
 #[test]
 fn compiled_catalogs_that_do_otherwise(rt: HostRuntime) -> Result<(), Fail> {
-    all_differ(&rt, &OTHERWISE)
+    all_differ(rt.alloc(), &OTHERWISE)
 }
 
 /// Where a resource is declared.
@@ -281,7 +295,7 @@ const REFUSED: [(Row, &str); 9] = [
 
 #[test]
 fn compiled_catalogs_that_are_refused(rt: HostRuntime) -> Result<(), Fail> {
-    all_told(&rt, 4, &REFUSED)
+    all_told(rt.alloc(), 4, &REFUSED)
 }
 
 const BESIDE_MANIFEST: [(Row, &str); 1] = [(
@@ -297,5 +311,5 @@ const BESIDE_MANIFEST: [(Row, &str); 1] = [(
 /// Beside a compiled catalog a manifest is none.
 #[test]
 fn a_manifest_beside_a_compiled_catalog(rt: HostRuntime) -> Result<(), Fail> {
-    all_told(&rt, 4, &BESIDE_MANIFEST)
+    all_told(rt.alloc(), 4, &BESIDE_MANIFEST)
 }

@@ -1,7 +1,7 @@
 //! Catalogs that Puppet compiled, and what is refused of them.
 
 use crate::compiled::{Edge, Res, VERIFY, catalog, catalog_with, is_refused};
-use std::process::Abort;
+use std::alloc::Global;
 use std::test::Fail;
 
 const RESOURCES: &[&str] = &["--compiled", "c", "--ask", "graph"];
@@ -33,16 +33,16 @@ const TEXTS: [&str; 17] = [
 ];
 
 /// Each text is refused.
-fn texts_are_refused(rt: &(impl Abort + AllocGlobal), texts: &[&str]) -> Result<(), Fail> {
+fn texts_are_refused(alloc: Global, texts: &[&str]) -> Result<(), Fail> {
     for text in texts {
-        is_refused(rt, VERIFY, *text, "", MALFORMED, *text)?;
+        is_refused(alloc, VERIFY, *text, "", MALFORMED)?;
     }
     Ok(())
 }
 
 #[test]
 fn texts_of_no_compiled_catalog(rt: HostRuntime) -> Result<(), Fail> {
-    texts_are_refused(&rt, &TEXTS)
+    texts_are_refused(rt.alloc(), &TEXTS)
 }
 
 /// Resources of another form, and resources that can't stand beside one another.
@@ -65,18 +65,23 @@ const FORMS: [&str; 14] = [
     r#"{"type":"Concat_file","title":"a","kind":"compilable_type","parameters":{"path":"/a"}},{"type":"Concat_file","title":"b","kind":"compilable_type","parameters":{"path":"/a"}}"#,
 ];
 
+/// These resources, as they stand in JSON, are refused.
+fn form_is_refused(alloc: Global, resources: &str) -> Result<(), Fail> {
+    let text = catalog_with(alloc, resources, "")?;
+    is_refused(alloc, VERIFY, text.as_str(), "", MALFORMED)
+}
+
 /// Each of these resources, as they stand in JSON, is refused.
-fn forms_are_refused(rt: &(impl Abort + AllocGlobal), forms: &[&str]) -> Result<(), Fail> {
+fn forms_are_refused(alloc: Global, forms: &[&str]) -> Result<(), Fail> {
     for resources in forms {
-        let text = catalog_with(rt.alloc(), *resources, "")?;
-        is_refused(rt, VERIFY, text.as_str(), "", MALFORMED, *resources)?;
+        form_is_refused(alloc, *resources)?;
     }
     Ok(())
 }
 
 #[test]
 fn resources_of_no_compiled_catalog(rt: HostRuntime) -> Result<(), Fail> {
-    forms_are_refused(&rt, &FORMS)
+    forms_are_refused(rt.alloc(), &FORMS)
 }
 
 /// A class and two files, of which one is in a defined resource, and edges that can't stand there.
@@ -101,18 +106,23 @@ const EDGES: [&[Edge]; 9] = [
     &[("Class[main]", "File[/b]")],
 ];
 
+/// The class and the files are refused with these edges.
+fn is_refused_with(alloc: Global, held: &[Edge]) -> Result<(), Fail> {
+    let text = catalog(alloc, HELD, held)?;
+    is_refused(alloc, RESOURCES, text.as_str(), "", MALFORMED)
+}
+
 /// The class and the files are refused with each of these edges.
-fn edges_are_refused(rt: &(impl Abort + AllocGlobal), rows: &[&[Edge]]) -> Result<(), Fail> {
+fn edges_are_refused(alloc: Global, rows: &[&[Edge]]) -> Result<(), Fail> {
     for held in rows {
-        let text = catalog(rt.alloc(), HELD, *held)?;
-        is_refused(rt, RESOURCES, text.as_str(), "", MALFORMED, text.as_str())?;
+        is_refused_with(alloc, *held)?;
     }
     Ok(())
 }
 
 #[test]
 fn edges_of_no_compiled_catalog(rt: HostRuntime) -> Result<(), Fail> {
-    edges_are_refused(&rt, &EDGES)
+    edges_are_refused(rt.alloc(), &EDGES)
 }
 
 /// Where a resource is declared.
@@ -502,23 +512,28 @@ const PROGRAMS: [Row; 37] = [
     ),
 ];
 
+/// A row is refused so.
+fn row_is_refused(alloc: Global, row: &Row) -> Result<(), Fail> {
+    let text = catalog(alloc, row.1, &[])?;
+    is_refused(alloc, row.0, text.as_str(), "", row.2)
+}
+
 /// Each row is refused so.
-fn all_refused(rt: &(impl Abort + AllocGlobal), rows: &[Row]) -> Result<(), Fail> {
-    for (words, all, line) in rows {
-        let text = catalog(rt.alloc(), *all, &[])?;
-        is_refused(rt, *words, text.as_str(), "", *line, text.as_str())?;
+fn all_refused(alloc: Global, rows: &[Row]) -> Result<(), Fail> {
+    for row in rows {
+        row_is_refused(alloc, row)?;
     }
     Ok(())
 }
 
 #[test]
 fn catalogs_that_are_refused(rt: HostRuntime) -> Result<(), Fail> {
-    all_refused(&rt, &CATALOGS)
+    all_refused(rt.alloc(), &CATALOGS)
 }
 
 #[test]
 fn programs_that_are_refused(rt: HostRuntime) -> Result<(), Fail> {
-    all_refused(&rt, &PROGRAMS)
+    all_refused(rt.alloc(), &PROGRAMS)
 }
 
 /// The words, the text of the compiled catalog and that of assumptions, and the refusal.
@@ -605,14 +620,14 @@ const ORDER: [Texts; 9] = [
 ];
 
 /// Each row has this refusal first.
-fn all_refused_first(rt: &(impl Abort + AllocGlobal), rows: &[Texts]) -> Result<(), Fail> {
+fn all_refused_first(alloc: Global, rows: &[Texts]) -> Result<(), Fail> {
     for (words, text, assumed, line) in rows {
-        is_refused(rt, *words, *text, *assumed, *line, *line)?;
+        is_refused(alloc, *words, *text, *assumed, *line)?;
     }
     Ok(())
 }
 
 #[test]
 fn which_refusal_comes_first(rt: HostRuntime) -> Result<(), Fail> {
-    all_refused_first(&rt, &ORDER)
+    all_refused_first(rt.alloc(), &ORDER)
 }

@@ -1,10 +1,10 @@
 //! Compiled catalogs at the limits: how many bytes, how many resources, and how large values.
 
-use crate::common::{NONE, Told, compare_text, run_over};
-use crate::compiled::{catalog_with, push_listed};
+use crate::common::{NONE, Told, compare_err, compare_status, compare_text, push_all, run_over};
+use crate::compiled::{catalog_with, push_comma};
 use std::alloc::Global;
-use std::process::Abort;
 use std::test::Fail;
+use test_rows::{joined, number_text};
 
 const ASKED: &[&str] = &["--compiled", "c"];
 
@@ -16,14 +16,45 @@ fn asked<'a>(alloc: Global, words: &[&str], catalog: &'a str) -> Result<Told, Fa
 
 const EMPTY: &[u8] = br#"{"catalog_format":2,"resources":[],"edges":[]}"#;
 
+/// Adds a resource of a number behind those of a list in JSON.
+fn push_numbered(
+    list: &mut String,
+    number: &str,
+    front: &str,
+    parameters: &str,
+) -> Result<(), Fail> {
+    push_comma(list)?;
+    push_all(
+        list,
+        &[
+            "{",
+            front,
+            r#","title":"/f"#,
+            number,
+            r#"","parameters":{"#,
+            parameters,
+            "}}",
+        ],
+    )
+}
+
+/// The same, of a number that isn't a text yet.
+fn push_one(
+    alloc: Global,
+    list: &mut String,
+    number: u64,
+    front: &str,
+    parameters: &str,
+) -> Result<(), Fail> {
+    let number = number_text(alloc, number)?;
+    push_numbered(list, number.as_str(), front, parameters)
+}
+
 /// So many resources of a type and a kind, each with these parameters, as they stand in JSON.
 fn listed(alloc: Global, count: u32, front: &str, parameters: &str) -> Result<String, Fail> {
     let mut text = String::new(alloc);
     for i in 1..=count {
-        let one = format!(in alloc;
-            r#"{{{front},"title":"/f{i}","parameters":{{{parameters}}}}}"#
-        )?;
-        push_listed(&mut text, one.as_str())?;
+        push_one(alloc, &mut text, i as u64, front, parameters)?;
     }
     Ok(text)
 }
@@ -40,15 +71,14 @@ const CONTAINER: &str = r#""type":"D","kind":"defined_type""#;
 
 /// Words over the text of a compiled catalog are told so with status 0, and refused so with another.
 fn is_told(
-    rt: &(impl Abort + AllocGlobal),
+    alloc: Global,
     words: &[&str],
     catalog: &str,
     status: u8,
     text: &str,
 ) -> Result<(), Fail> {
-    let told = asked(rt.alloc(), words, catalog)?;
-    compare_text(rt, &told, status, text, text);
-    Ok(())
+    let told = asked(alloc, words, catalog)?;
+    compare_text(alloc, &told, status, text, text)
 }
 
 /// The words, how many of which, and what is told with status 0 or refused.
@@ -71,24 +101,29 @@ const ROWS: [Row; 7] = [
     (ASKED, 4_097, CONTAINER, 0, NONE),
 ];
 
+/// A row is told or refused so.
+fn row_is_told(alloc: Global, row: &Row) -> Result<(), Fail> {
+    let catalog = many(alloc, row.1, row.2, r#""content":"x""#)?;
+    is_told(alloc, row.0, catalog.as_str(), row.3, row.4)
+}
+
 /// Each row is told or refused so.
-fn all_told(rt: &(impl Abort + AllocGlobal), rows: &[Row]) -> Result<(), Fail> {
-    for (words, count, front, status, text) in rows {
-        let catalog = many(rt.alloc(), *count, *front, r#""content":"x""#)?;
-        is_told(rt, *words, catalog.as_str(), *status, *text)?;
+fn all_told(alloc: Global, rows: &[Row]) -> Result<(), Fail> {
+    for row in rows {
+        row_is_told(alloc, row)?;
     }
     Ok(())
 }
 
 #[test]
 fn counts_are_limited(rt: HostRuntime) -> Result<(), Fail> {
-    all_told(&rt, &ROWS)
+    all_told(rt.alloc(), &ROWS)
 }
 
 /// A content of so many bytes, as a parameter.
 fn content(alloc: Global, length: usize) -> Result<String, Fail> {
     let text = "x".repeat(alloc, length)?;
-    Ok(format!(in alloc; r#""content":"{}""#, text.as_str())?)
+    Ok(joined(alloc, &[r#""content":""#, text.as_str(), "\""])?)
 }
 
 /// The text of a compiled catalog of one file with a content of so many bytes.
@@ -97,24 +132,28 @@ fn with_content(alloc: Global, length: usize) -> Result<String, Fail> {
     many(alloc, 1, FILE, parameters.as_str())
 }
 
+/// The status was this, and this stands on err.
+fn tells(alloc: Global, told: &Told, status: u8, err: &str) -> Result<(), Fail> {
+    compare_err(alloc, told, err, "err")?;
+    compare_status(alloc, told, status, err)
+}
+
 /// The compiled catalog ends with the status, and with this on err.
-fn ends_with(
-    rt: &(impl Abort + AllocGlobal),
-    catalog: &str,
-    status: u8,
-    err: &str,
-) -> Result<(), Fail> {
-    let told = asked(rt.alloc(), ASKED, catalog)?;
-    assert_eq!(rt; told.err.as_str(), err, "{status}");
-    assert_eq!(rt; told.status, status, "{status}");
-    Ok(())
+fn ends_with(alloc: Global, catalog: &str, status: u8, err: &str) -> Result<(), Fail> {
+    let told = asked(alloc, ASKED, catalog)?;
+    tells(alloc, &told, status, err)
+}
+
+/// A content of so many bytes ends with the status, and with this on err.
+fn is_limited(alloc: Global, length: usize, status: u8, err: &str) -> Result<(), Fail> {
+    let text = with_content(alloc, length)?;
+    ends_with(alloc, text.as_str(), status, err)
 }
 
 /// Each row: how long a content is, the status, and what is on err.
-fn all_limited(rt: &(impl Abort + AllocGlobal), rows: &[(usize, u8, &str)]) -> Result<(), Fail> {
+fn all_limited(alloc: Global, rows: &[(usize, u8, &str)]) -> Result<(), Fail> {
     for (length, status, err) in rows {
-        let text = with_content(rt.alloc(), *length)?;
-        ends_with(rt, text.as_str(), *status, *err)?;
+        is_limited(alloc, *length, *status, *err)?;
     }
     Ok(())
 }
@@ -123,7 +162,7 @@ fn all_limited(rt: &(impl Abort + AllocGlobal), rows: &[(usize, u8, &str)]) -> R
 #[test]
 fn values_are_limited(rt: HostRuntime) -> Result<(), Fail> {
     all_limited(
-        &rt,
+        rt.alloc(),
         &[
             (262_143, 0, ""),
             (262_144, 4, "refused 32 at 0: File[/f1] content\n"),
@@ -154,16 +193,21 @@ const LONG: [Long; 5] = [
     ),
 ];
 
+/// A row is refused so.
+fn is_refused(alloc: Global, row: &Long) -> Result<(), Fail> {
+    let text = " ".repeat(alloc, row.1)?;
+    is_told(alloc, row.0, text.as_str(), 4, row.2)
+}
+
 /// Each row is refused so.
-fn all_refused(rt: &(impl Abort + AllocGlobal), rows: &[Long]) -> Result<(), Fail> {
-    for (words, length, line) in rows {
-        let text = " ".repeat(rt.alloc(), *length)?;
-        is_told(rt, *words, text.as_str(), 4, *line)?;
+fn all_refused(alloc: Global, rows: &[Long]) -> Result<(), Fail> {
+    for row in rows {
+        is_refused(alloc, row)?;
     }
     Ok(())
 }
 
 #[test]
 fn texts_that_are_long(rt: HostRuntime) -> Result<(), Fail> {
-    all_refused(&rt, &LONG)
+    all_refused(rt.alloc(), &LONG)
 }

@@ -1,9 +1,9 @@
 //! Manifests whose order matters: what is told of them runs as it is told.
 
-use crate::common::{Told, compare_err, compare_status, run_over};
+use crate::common::{Site, Told, compare_err, compare_status, holds, run_over};
 use std::alloc::Global;
-use std::process::Abort;
 use std::test::Fail;
+use test_rows::same;
 
 /// A manifest, the listing beside it, and the lines in front of the tree. It is told with and without a number of conflicts.
 type Row = (&'static str, &'static str, &'static str);
@@ -111,35 +111,37 @@ const REPLAY: &[&str] = &[
 /// What is told of an order over a tree.
 fn replayed<'x>(
     alloc: Global,
-    manifest: &'x str,
-    listing: &'x str,
+    site: Site<'x>,
     tree: &'x str,
     order: &'x str,
 ) -> Result<Told, Fail> {
     let over: [(&'x str, &'x [u8]); 4] = [
-        ("site.pp", manifest.as_bytes()),
-        ("listing", listing.as_bytes()),
+        ("site.pp", site.0.as_bytes()),
+        ("listing", site.1.as_bytes()),
         ("tree", tree.as_bytes()),
         ("order", order.as_bytes()),
     ];
     run_over(alloc, REPLAY, &over)
 }
 
+/// What was told is this outcome alone.
+fn ends_so(alloc: Global, told: &Told, outcome: &str, row: &str) -> Result<(), Fail> {
+    compare_status(alloc, told, 0, row)?;
+    let (ran, rest) = behind(told.out.as_str(), "outcome ");
+    same(alloc, row, ran, outcome)?;
+    same(alloc, row, rest, "")
+}
+
 /// Replays an order over the tree that was told, and compares the outcomes.
 pub fn replays<'x>(
     alloc: Global,
-    rt: &impl Abort,
-    manifest: &'x str,
-    listing: &'x str,
+    site: Site<'x>,
     tree: &'x str,
     order: &'x str,
     outcome: &str,
 ) -> Result<(), Fail> {
-    let told = replayed(alloc, manifest, listing, tree, order)?;
-    let (ran, rest) = behind(told.out.as_str(), "outcome ");
-    assert_eq!(rt; ran, outcome, "{manifest}");
-    assert_eq!(rt; rest, "", "{manifest}");
-    Ok(())
+    let told = replayed(alloc, site, tree, order)?;
+    ends_so(alloc, &told, outcome, site.0)
 }
 
 /// Whether two texts of orders differ at two places, and these are neighbours.
@@ -174,59 +176,73 @@ fn next_run<'a>(lines: &'a str) -> (&'a str, &'a str, &'a str) {
 }
 
 /// Two runs, each an order and its outcome: the orders differ by one exchange, and the outcomes differ.
-fn are_apart(rt: &impl Abort, left: (&str, &str), right: (&str, &str), manifest: &str) {
-    assert!(rt; are_exchanged(left.0, right.0), "{manifest}");
-    assert!(rt; left.1 != right.1, "{manifest}");
+fn are_apart(
+    alloc: Global,
+    left: (&str, &str),
+    right: (&str, &str),
+    manifest: &str,
+) -> Result<(), Fail> {
+    holds(
+        alloc,
+        &["one exchange, ", manifest],
+        are_exchanged(left.0, right.0),
+    )?;
+    holds(alloc, &["other outcomes, ", manifest], left.1 != right.1)
 }
 
 /// Both runs of a row end so on the tree.
 fn both_replay(
-    rt: &(impl Abort + AllocGlobal),
+    alloc: Global,
     row: &Row,
     tree: &str,
     left: (&str, &str),
     right: (&str, &str),
 ) -> Result<(), Fail> {
-    replays(rt.alloc(), rt, row.0, row.1, tree, left.0, left.1)?;
-    replays(rt.alloc(), rt, row.0, row.1, tree, right.0, right.1)
+    replays(alloc, (row.0, row.1), tree, left.0, left.1)?;
+    replays(alloc, (row.0, row.1), tree, right.0, right.1)
 }
 
 /// Both outcomes that these lines tell differ, and are those of the orders on the tree; and the orders differ by one exchange.
-fn runs_differ(rt: &(impl Abort + AllocGlobal), row: &Row, lines: &str) -> Result<(), Fail> {
+fn runs_differ(alloc: Global, row: &Row, lines: &str) -> Result<(), Fail> {
     let (tree, rest) = behind(lines, "tree ");
     let (left, first, rest) = next_run(rest);
     let (right, second, rest) = next_run(rest);
-    assert_eq!(rt; rest, "", "{}", row.0);
-    are_apart(rt, (left, first), (right, second), row.0);
-    both_replay(rt, row, tree, (left, first), (right, second))
+    same(alloc, row.0, rest, "")?;
+    are_apart(alloc, (left, first), (right, second), row.0)?;
+    both_replay(alloc, row, tree, (left, first), (right, second))
 }
 
-/// These lines are told in front of two runs that differ.
-fn differs(rt: &(impl Abort + AllocGlobal), row: &Row, words: &[&str]) -> Result<(), Fail> {
-    let told = told_of(rt.alloc(), row, words)?;
-    compare_status(rt, &told, 1, row.0);
-    compare_err(rt, &told, "", row.0);
+/// The lines of a row were told in front of two runs that differ.
+fn tells_runs(alloc: Global, row: &Row, told: &Told) -> Result<(), Fail> {
+    compare_status(alloc, told, 1, row.0)?;
+    compare_err(alloc, told, "", row.0)?;
     let rest = told.out.as_str().strip_prefix(row.2).unwrap_or("?");
-    runs_differ(rt, row, rest)
+    runs_differ(alloc, row, rest)
+}
+
+/// A row is told with two runs that differ.
+fn differs(alloc: Global, row: &Row, words: &[&str]) -> Result<(), Fail> {
+    let told = told_of(alloc, row, words)?;
+    tells_runs(alloc, row, &told)
 }
 
 /// Each row is told with two runs that differ.
-fn all_differ(rt: &(impl Abort + AllocGlobal), words: &[&str], rows: &[Row]) -> Result<(), Fail> {
+fn all_differ(alloc: Global, words: &[&str], rows: &[Row]) -> Result<(), Fail> {
     for row in rows {
-        differs(rt, row, words)?;
+        differs(alloc, row, words)?;
     }
     Ok(())
 }
 
 #[test]
 fn orders_that_matter(rt: HostRuntime) -> Result<(), Fail> {
-    all_differ(&rt, &["--packages", "listing", "site.pp"], &ROWS)
+    all_differ(rt.alloc(), &["--packages", "listing", "site.pp"], &ROWS)
 }
 
 #[test]
 fn orders_that_matter_within_conflicts(rt: HostRuntime) -> Result<(), Fail> {
     all_differ(
-        &rt,
+        rt.alloc(),
         &["--packages", "listing", "--conflicts", "1000000", "site.pp"],
         &ROWS,
     )

@@ -1,10 +1,10 @@
 //! Entries that are wanted: whether each run that ends leaves them.
 
-use crate::common::{Told, compare, run_over};
+use crate::common::{Told, compare, compare_err, compare_status, run_over};
 use crate::differences::{behind, replays};
 use std::alloc::Global;
-use std::process::Abort;
 use std::test::Fail;
+use test_rows::{joined, same, same_of};
 
 const LISTING: &str =
     r#"{"version":2,"packages":{"ntp":{"files":[["/etc/ntp.conf",null],["/usr/sbin/ntpd","d1"]],"folders":[]}}}"#;
@@ -128,54 +128,45 @@ const ENSURED: [Ensured; 8] = [
     ),
 ];
 
-/// What was told has these lines before and behind the answer.
-fn is_ensured(
-    rt: &(impl Abort + AllocGlobal),
-    told: &Told,
-    head: &str,
-    last: &str,
-    manifest: &str,
-) -> Result<(), Fail> {
-    let report = format!(in rt.alloc(); "{head}ensured\n{last}")?;
-    compare(rt, told, 0, report.as_str(), "", manifest);
-    Ok(())
+/// What was told has the lines of a row before and behind the answer.
+fn tells_ensured(alloc: Global, told: &Told, row: &Ensured) -> Result<(), Fail> {
+    let report = joined(alloc, &[row.3, "ensured\n", row.4])?;
+    compare(alloc, told, 0, report.as_str(), "", row.0)
+}
+
+fn is_ensured(alloc: Global, row: &Ensured) -> Result<(), Fail> {
+    let told = told_of(alloc, row.0, row.1, row.2)?;
+    tells_ensured(alloc, &told, row)
 }
 
 /// The entry of each row is ensured.
-fn all_ensured(rt: &(impl Abort + AllocGlobal), rows: &[Ensured]) -> Result<(), Fail> {
-    for (manifest, path, content, head, last) in rows {
-        let told = told_of(rt.alloc(), *manifest, *path, *content)?;
-        is_ensured(rt, &told, *head, *last, *manifest)?;
+fn all_ensured(alloc: Global, rows: &[Ensured]) -> Result<(), Fail> {
+    for row in rows {
+        is_ensured(alloc, row)?;
     }
     Ok(())
 }
 
 #[test]
 fn entries_that_are_ensured(rt: HostRuntime) -> Result<(), Fail> {
-    all_ensured(&rt, &ENSURED)
+    all_ensured(rt.alloc(), &ENSURED)
 }
 
 /// The run that these lines tell ends so.
-fn runs_so(rt: &(impl Abort + AllocGlobal), manifest: &str, lines: &str) -> Result<(), Fail> {
+fn runs_so(alloc: Global, manifest: &str, lines: &str) -> Result<(), Fail> {
     let (tree, rest) = behind(lines, "tree ");
     let (order, rest) = behind(rest, "order ");
     let (outcome, rest) = behind(rest, "outcome ");
-    assert_eq!(rt; rest, "", "{manifest}");
-    replays(rt.alloc(), rt, manifest, LISTING, tree, order, outcome)
+    same(alloc, manifest, rest, "")?;
+    replays(alloc, (manifest, LISTING), tree, order, outcome)
 }
 
-/// A run ends without the entry: it is told, and runs so.
-fn is_missed(
-    rt: &(impl Abort + AllocGlobal),
-    manifest: &str,
-    path: &str,
-    content: Option<&str>,
-) -> Result<(), Fail> {
-    let told = told_of(rt.alloc(), manifest, path, content)?;
-    assert_eq!(rt; told.status, 9, "{manifest}");
-    assert_eq!(rt; told.err.as_str(), "", "{manifest}");
+/// A run that ends without the entry was told, and runs so.
+fn tells_missed(alloc: Global, told: &Told, manifest: &str) -> Result<(), Fail> {
+    compare_status(alloc, told, 9, manifest)?;
+    compare_err(alloc, told, "", manifest)?;
     let rest = told.out.as_str().strip_prefix(MISSED).unwrap_or("?");
-    runs_so(rt, manifest, rest)
+    runs_so(alloc, manifest, rest)
 }
 
 /// A manifest, a path, and a content that is wanted there.
@@ -207,41 +198,60 @@ const ENTRIES: [Entry; 8] = [
     ),
 ];
 
+/// A run ends without the entry of a row.
+fn is_missed(alloc: Global, row: &Entry) -> Result<(), Fail> {
+    let told = told_of(alloc, row.0, row.1, row.2)?;
+    tells_missed(alloc, &told, row.0)
+}
+
 /// The entry of each row is missed.
-fn all_missed(rt: &(impl Abort + AllocGlobal), rows: &[Entry]) -> Result<(), Fail> {
-    for (manifest, path, content) in rows {
-        is_missed(rt, *manifest, *path, *content)?;
+fn all_missed(alloc: Global, rows: &[Entry]) -> Result<(), Fail> {
+    for row in rows {
+        is_missed(alloc, row)?;
     }
     Ok(())
 }
 
 #[test]
 fn entries_that_are_missed(rt: HostRuntime) -> Result<(), Fail> {
-    all_missed(&rt, &ENTRIES)
+    all_missed(rt.alloc(), &ENTRIES)
 }
 
 /// A package and a file that it brings, without an arrow between them.
 const SHARED: &str = "package { 'ntp': } file { '/etc/ntp.conf': content => 'server a' }";
 
-/// This is told where an entry of the graph is wanted.
-fn is_told_as(rt: &(impl Abort + AllocGlobal), report: &str) -> Result<(), Fail> {
-    let told = told_of(rt.alloc(), SHARED, "/etc/ntp.conf", None)?;
-    compare(rt, &told, 1, report, "", SHARED);
-    Ok(())
+/// This is told where an entry of a graph is wanted.
+fn is_told_as(alloc: Global, manifest: &str, report: &str) -> Result<(), Fail> {
+    let told = told_of(alloc, manifest, "/etc/ntp.conf", None)?;
+    compare(alloc, &told, 1, report, "", manifest)
+}
+
+/// Where an entry of a graph is wanted, that is told which these words tell of the graph.
+fn is_told_alike(alloc: Global, words: &[&str], manifest: &str) -> Result<(), Fail> {
+    let plain = asked(alloc, words, manifest)?;
+    is_told_as(alloc, manifest, plain.out.as_str())
 }
 
 #[test]
 fn entries_of_graphs_that_differ(rt: HostRuntime) -> Result<(), Fail> {
-    let plain = asked(rt.alloc(), &["--packages", "listing", "site.pp"], SHARED)?;
-    is_told_as(&rt, plain.out.as_str())
+    is_told_alike(rt.alloc(), &["--packages", "listing", "site.pp"], SHARED)
+}
+
+/// These words were refused: nothing is told.
+fn tells_nothing(alloc: Global, told: &Told, words: &[&str]) -> Result<(), Fail> {
+    same_of(alloc, words, told.out.as_str(), "")?;
+    compare_status(alloc, told, 5, "words")
+}
+
+fn is_refused(alloc: Global, words: &[&str]) -> Result<(), Fail> {
+    let told = asked(alloc, words, "")?;
+    tells_nothing(alloc, &told, words)
 }
 
 /// Each of these words is refused: nothing is told.
-fn all_refused(rt: &(impl Abort + AllocGlobal), rows: &[&[&str]]) -> Result<(), Fail> {
+fn all_refused(alloc: Global, rows: &[&[&str]]) -> Result<(), Fail> {
     for words in rows {
-        let told = asked(rt.alloc(), *words, "")?;
-        assert_eq!(rt; told.status, 5);
-        assert_eq!(rt; told.out.as_str(), "");
+        is_refused(alloc, *words)?;
     }
     Ok(())
 }
@@ -249,7 +259,7 @@ fn all_refused(rt: &(impl Abort + AllocGlobal), rows: &[&[&str]]) -> Result<(), 
 #[test]
 fn entries_that_are_refused(rt: HostRuntime) -> Result<(), Fail> {
     all_refused(
-        &rt,
+        rt.alloc(),
         &[
             &["--ask", "ensures", "site.pp"],
             &["--ask", "ensures", "--content", "hi", "site.pp"],

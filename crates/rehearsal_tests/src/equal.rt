@@ -1,11 +1,10 @@
 //! Two manifests each: whether they do the same.
 
-use crate::common::{Told, compare, run_over};
+use crate::common::{Told, compare, compare_err, compare_status, compare_told, holds, run_over};
 use crate::differences::{behind, replays};
-use crate::verify::is_told;
 use std::alloc::Global;
-use std::process::Abort;
 use std::test::Fail;
+use test_rows::same;
 
 const LISTING: &str =
     r#"{"version":2,"packages":{"ntp":{"files":[["/etc/ntp.conf",null],["/usr/sbin/ntpd","d1"]],"folders":[]},"pair":{"files":[["/opt/x","d1"]],"folders":[]},"twin":{"files":[["/opt/x","d2"]],"folders":[]}}}"#;
@@ -56,16 +55,27 @@ fn asked<'a>(
     run_over(alloc, words, &over)
 }
 
+/// This is told of an input and another manifest.
+fn is_told(
+    alloc: Global,
+    words: &[&str],
+    status: u8,
+    sides: (&str, &str),
+    want: &str,
+) -> Result<(), Fail> {
+    let told = asked(alloc, words, sides.0, sides.1)?;
+    compare_told(alloc, &told, status, want, sides.1)
+}
+
 /// Each row: an input and another manifest, and what is told of them with this status.
 fn all_told(
-    rt: &(impl Abort + AllocGlobal),
+    alloc: Global,
     words: &[&str],
     status: u8,
     rows: &[(&str, &str, &str)],
 ) -> Result<(), Fail> {
     for (manifest, other, want) in rows {
-        let told = asked(rt.alloc(), words, *manifest, *other)?;
-        is_told(rt, &told, status, *want, *other);
+        is_told(alloc, words, status, (*manifest, *other), *want)?;
     }
     Ok(())
 }
@@ -85,7 +95,7 @@ const SAME_TWO: &str =
 #[test]
 fn manifests_that_do_the_same(rt: HostRuntime) -> Result<(), Fail> {
     all_told(
-        &rt,
+        rt.alloc(),
         ASKED,
         0,
         &[
@@ -164,63 +174,54 @@ pub fn read_apart(lines: &str) -> Apart {
 }
 
 /// Both outcomes differ, and nothing is told behind them.
-pub fn differ(rt: &impl Abort, apart: &Apart, row: &str) {
-    assert_eq!(rt; apart.rest, "", "{row}");
-    assert!(rt; apart.outcome != apart.other_outcome, "{row}");
-}
-
-/// Something is told on out alone, with the status of manifests that do otherwise.
-fn is_told_to_differ(rt: &impl Abort, told: &Told, row: &str) {
-    assert_eq!(rt; told.status, 10, "{row}");
-    assert_eq!(rt; told.err.as_str(), "", "{row}");
+pub fn differ(alloc: Global, apart: &Apart, row: &str) -> Result<(), Fail> {
+    same(alloc, row, apart.rest, "")?;
+    holds(alloc, &[row], apart.outcome != apart.other_outcome)
 }
 
 /// Each manifest has a run from the tree that is told, with its order and outcome.
-fn both_replay(
-    rt: &(impl Abort + AllocGlobal),
-    manifest: &str,
-    other: &str,
-    apart: &Apart,
-) -> Result<(), Fail> {
-    let alloc = rt.alloc();
+fn both_replay(alloc: Global, manifest: &str, other: &str, apart: &Apart) -> Result<(), Fail> {
     replays(
         alloc,
-        rt,
-        manifest,
-        LISTING,
+        (manifest, LISTING),
         apart.tree,
         apart.order,
         apart.outcome,
     )?;
     replays(
         alloc,
-        rt,
-        other,
-        LISTING,
+        (other, LISTING),
         apart.tree,
         apart.other_order,
         apart.other_outcome,
     )
 }
 
-/// A run of either from one tree: they are told, differ, and run so.
-fn end_apart(
-    rt: &(impl Abort + AllocGlobal),
-    manifest: &str,
-    other: &str,
-    front: &str,
-) -> Result<(), Fail> {
-    let told = asked(rt.alloc(), ASKED, manifest, other)?;
-    is_told_to_differ(rt, &told, other);
-    let apart = read_apart(told.out.as_str().strip_prefix(front).unwrap_or("?"));
-    differ(rt, &apart, other);
-    both_replay(rt, manifest, other, &apart)
+/// The outcomes differ, and either manifest has a run so.
+fn run_apart(alloc: Global, manifest: &str, other: &str, apart: &Apart) -> Result<(), Fail> {
+    differ(alloc, apart, other)?;
+    both_replay(alloc, manifest, other, apart)
 }
 
-/// Each row: two manifests, and the lines in front of the tree from which they end apart.
-fn all_end_apart(rt: &(impl Abort + AllocGlobal), rows: &[(&str, &str, &str)]) -> Result<(), Fail> {
-    for (manifest, other, front) in rows {
-        end_apart(rt, *manifest, *other, *front)?;
+/// Two manifests, and the lines in front of the tree from which they end apart.
+type Row = (&'static str, &'static str, &'static str);
+
+/// A run of either from one tree was told on out alone, with the status of manifests that do otherwise, and both run so.
+fn tells_apart(alloc: Global, told: &Told, row: &Row) -> Result<(), Fail> {
+    compare_status(alloc, told, 10, row.1)?;
+    compare_err(alloc, told, "", row.1)?;
+    let apart = read_apart(told.out.as_str().strip_prefix(row.2).unwrap_or("?"));
+    run_apart(alloc, row.0, row.1, &apart)
+}
+
+fn end_apart(alloc: Global, row: &Row) -> Result<(), Fail> {
+    let told = asked(alloc, ASKED, row.0, row.1)?;
+    tells_apart(alloc, &told, row)
+}
+
+fn all_end_apart(alloc: Global, rows: &[Row]) -> Result<(), Fail> {
+    for row in rows {
+        end_apart(alloc, row)?;
     }
     Ok(())
 }
@@ -232,7 +233,7 @@ const APART_ONE: &str =
 #[test]
 fn manifests_that_do_otherwise(rt: HostRuntime) -> Result<(), Fail> {
     all_end_apart(
-        &rt,
+        rt.alloc(),
         &[
             (X, "file { '/a': content => 'y' }", APART_ONE),
             (
@@ -269,33 +270,43 @@ fn manifests_that_do_otherwise(rt: HostRuntime) -> Result<(), Fail> {
 
 const RACE: &str = "package { 'ntp': } file { '/etc/ntp.conf': content => 'server a' }";
 
-/// Behind these lines is told what is told of the one whose order matters.
-fn is_told_alone(rt: &impl Abort, told: &Told, front: &str, alone: &str, row: &str) {
+/// Behind these lines was told what is told of the one whose order matters.
+fn tells_alone(
+    alloc: Global,
+    told: &Told,
+    front: &str,
+    alone: &str,
+    row: &str,
+) -> Result<(), Fail> {
     let rest = told.out.as_str().strip_prefix(front).unwrap_or("?");
-    assert_eq!(rt; rest, alone, "{row}");
-    assert_eq!(rt; told.err.as_str(), "", "{row}");
-    assert_eq!(rt; told.status, 1, "{row}");
+    same(alloc, row, rest, alone)?;
+    compare_err(alloc, told, "", row)?;
+    compare_status(alloc, told, 1, row)
 }
 
-/// Each row: two manifests, and the lines in front of what is told of the one whose order matters.
-fn all_told_alone(
-    rt: &(impl Abort + AllocGlobal),
-    alone: &str,
-    rows: &[(&str, &str, &str)],
-) -> Result<(), Fail> {
-    for (manifest, other, front) in rows {
-        let told = asked(rt.alloc(), ASKED, *manifest, *other)?;
-        is_told_alone(rt, &told, *front, alone, *manifest);
+fn is_told_alone(alloc: Global, alone: &str, row: &Row) -> Result<(), Fail> {
+    let told = asked(alloc, ASKED, row.0, row.1)?;
+    tells_alone(alloc, &told, row.2, alone, row.0)
+}
+
+fn all_told_alone(alloc: Global, alone: &str, rows: &[Row]) -> Result<(), Fail> {
+    for row in rows {
+        is_told_alone(alloc, alone, row)?;
     }
     Ok(())
 }
 
+/// Each row: two manifests, and the lines in front of what is told of this one alone.
+fn all_told_as(alloc: Global, manifest: &str, rows: &[Row]) -> Result<(), Fail> {
+    let alone = asked(alloc, &["--packages", "listing", "site.pp"], manifest, "")?;
+    all_told_alone(alloc, alone.out.as_str(), rows)
+}
+
 #[test]
 fn manifests_of_which_one_differs(rt: HostRuntime) -> Result<(), Fail> {
-    let alone = asked(rt.alloc(), &["--packages", "listing", "site.pp"], RACE, "")?;
-    all_told_alone(
-        &rt,
-        alone.out.as_str(),
+    all_told_as(
+        rt.alloc(),
+        RACE,
         &[
             (RACE, X, ""),
             (RACE, RACE, ""),
@@ -317,7 +328,7 @@ const MADE_SURE: &str =
 #[test]
 fn manifests_whose_conflicts_are_spent(rt: HostRuntime) -> Result<(), Fail> {
     all_told(
-        &rt,
+        rt.alloc(),
         WITHIN,
         3,
         &[
@@ -340,7 +351,7 @@ fn manifests_whose_conflicts_are_spent(rt: HostRuntime) -> Result<(), Fail> {
 #[test]
 fn manifests_that_are_refused(rt: HostRuntime) -> Result<(), Fail> {
     all_told(
-        &rt,
+        rt.alloc(),
         ASKED,
         4,
         &[
@@ -388,11 +399,16 @@ fn told_of_bad(alloc: Global, option: &str) -> Result<Told, Fail> {
     run_over(alloc, &words, &over)
 }
 
+/// The file that an option names is none of its kind, and is refused with this line.
+fn is_bad(alloc: Global, option: &str, line: &str) -> Result<(), Fail> {
+    let told = told_of_bad(alloc, option)?;
+    compare(alloc, &told, 4, "", line, option)
+}
+
 /// Each row: an option whose file is none of its kind, and the line of the refusal.
-fn all_bad(rt: &(impl Abort + AllocGlobal), rows: &[(&str, &str)]) -> Result<(), Fail> {
+fn all_bad(alloc: Global, rows: &[(&str, &str)]) -> Result<(), Fail> {
     for (option, line) in rows {
-        let told = told_of_bad(rt.alloc(), *option)?;
-        compare(rt, &told, 4, "", *line, *option);
+        is_bad(alloc, *option, *line)?;
     }
     Ok(())
 }
@@ -401,7 +417,7 @@ fn all_bad(rt: &(impl Abort + AllocGlobal), rows: &[(&str, &str)]) -> Result<(),
 #[test]
 fn files_of_both(rt: HostRuntime) -> Result<(), Fail> {
     all_bad(
-        &rt,
+        rt.alloc(),
         &[
             ("--facts", "refused 60 at 0: facts\n"),
             ("--packages", "refused 61 at 0: packages\n"),
@@ -410,12 +426,25 @@ fn files_of_both(rt: HostRuntime) -> Result<(), Fail> {
     )
 }
 
+fn told_beside(alloc: Global, other: &str) -> Result<Told, Fail> {
+    let words: [&str; 5] = ["--ask", "equal", "--other", "old.pp", "site.pp"];
+    asked(alloc, &words, "include z", other)
+}
+
+/// What is told of another manifest of so many blanks.
+fn told_of_blanks(alloc: Global, length: usize) -> Result<Told, Fail> {
+    let long = " ".repeat(alloc, length)?;
+    told_beside(alloc, long.as_str())
+}
+
+/// Another manifest of so many blanks is refused with this line.
+fn is_long(alloc: Global, length: usize, line: &str) -> Result<(), Fail> {
+    let told = told_of_blanks(alloc, length)?;
+    compare_told(alloc, &told, 4, line, "a long manifest")
+}
+
 /// The other manifest is too long.
 #[test]
 fn another_manifest_that_is_long(rt: HostRuntime) -> Result<(), Fail> {
-    let long = " ".repeat(rt.alloc(), 262_145)?;
-    let words: [&str; 5] = ["--ask", "equal", "--other", "old.pp", "site.pp"];
-    let told = asked(rt.alloc(), &words, "include z", long.as_str())?;
-    is_told(&rt, &told, 4, "refused 17 at 0: other\n", "a long manifest");
-    Ok(())
+    is_long(rt.alloc(), 262_145, "refused 17 at 0: other\n")
 }

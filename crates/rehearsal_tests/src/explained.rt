@@ -1,10 +1,10 @@
 //! Explanations: where a run fails and why, where outcomes differ, and where resources stand.
 
-use crate::common::{Told, compare, run_over};
+use crate::common::{Told, begins, compare, compare_err, compare_status, holds, run_over};
 use crate::differences::behind;
 use std::alloc::Global;
-use std::process::Abort;
 use std::test::Fail;
+use test_rows::joined;
 
 const LISTING: &str = concat!(
     r#"{"version":2,"packages":{"ntp":{"files":[["/etc/ntp.conf",null]],"folders":[]},"p":{"files":[],"folders":["/opt/p"]},"#,
@@ -123,11 +123,32 @@ const ROWS: [Row; 9] = [
 ];
 
 /// Whether this is told where the first comes ahead of the second in the first order.
-fn tells(alloc: Global, told: &str, tree: &str, first: &Run, second: &Run) -> Result<bool, Fail> {
-    let (a, how) = *first;
-    let (b, other) = *second;
-    let text = format!(in alloc;
-        "resources 2\npruned 0\nnot deterministic\nexchanged {a} and {b}\ntree {tree}\n{a} first: {how}\n{b} first: {other}\n"
+fn tells(
+    alloc: Global,
+    told: &str,
+    tree: &'static str,
+    first: &Run,
+    second: &Run,
+) -> Result<bool, Fail> {
+    let text = joined(
+        alloc,
+        &[
+            "resources 2\npruned 0\nnot deterministic\nexchanged ",
+            first.0,
+            " and ",
+            second.0,
+            "\ntree ",
+            tree,
+            "\n",
+            first.0,
+            " first: ",
+            first.1,
+            "\n",
+            second.0,
+            " first: ",
+            second.1,
+            "\n",
+        ],
     )?;
     Ok(told == text.as_str())
 }
@@ -140,29 +161,33 @@ fn tells_row(alloc: Global, told: &str, row: &Row) -> Result<bool, Fail> {
 }
 
 /// What is wanted is told on out alone, with the status of a manifest whose order matters.
-fn is_apart(rt: &impl Abort, told: &Told, is_wanted: bool) {
-    assert!(rt; is_wanted, "{}", told.out.as_str());
-    assert_eq!(rt; told.err.as_str(), "");
-    assert_eq!(rt; told.status, 1);
+fn is_apart(alloc: Global, told: &Told, is_wanted: bool) -> Result<(), Fail> {
+    holds(alloc, &[told.out.as_str()], is_wanted)?;
+    compare_err(alloc, told, "", "err")?;
+    compare_status(alloc, told, 1, told.out.as_str())
 }
 
-fn is_explained(rt: &(impl Abort + AllocGlobal), row: &Row) -> Result<(), Fail> {
-    let told = told_of(rt.alloc(), row.0)?;
-    let is_wanted = tells_row(rt.alloc(), told.out.as_str(), row)?;
-    is_apart(rt, &told, is_wanted);
-    Ok(())
+/// What was told explains a row.
+fn explains(alloc: Global, told: &Told, row: &Row) -> Result<(), Fail> {
+    let is_wanted = tells_row(alloc, told.out.as_str(), row)?;
+    is_apart(alloc, told, is_wanted)
 }
 
-fn all_explained(rt: &(impl Abort + AllocGlobal), rows: &[Row]) -> Result<(), Fail> {
+fn is_explained(alloc: Global, row: &Row) -> Result<(), Fail> {
+    let told = told_of(alloc, row.0)?;
+    explains(alloc, &told, row)
+}
+
+fn all_explained(alloc: Global, rows: &[Row]) -> Result<(), Fail> {
     for row in rows {
-        is_explained(rt, row)?;
+        is_explained(alloc, row)?;
     }
     Ok(())
 }
 
 #[test]
 fn orders_that_end_apart(rt: HostRuntime) -> Result<(), Fail> {
-    all_explained(&rt, &ROWS)
+    all_explained(rt.alloc(), &ROWS)
 }
 
 /// What is told of two packages. Which order is told first is free; the package that comes last has its content there.
@@ -179,11 +204,21 @@ const PACKAGES: [&str; 2] = [
     ),
 ];
 
+/// One of these two texts is told.
+fn is_either(alloc: Global, manifest: &str, one: &str, other: &str) -> Result<(), Fail> {
+    let told = told_of(alloc, manifest)?;
+    let is_wanted = told.out.as_str() == one || told.out.as_str() == other;
+    is_apart(alloc, &told, is_wanted)
+}
+
 #[test]
 fn paths_at_which_outcomes_differ(rt: HostRuntime) -> Result<(), Fail> {
-    let told = told_of(rt.alloc(), "package { ['a', 'b']: }")?;
-    is_apart(&rt, &told, PACKAGES.contains(&told.out.as_str()));
-    Ok(())
+    is_either(
+        rt.alloc(),
+        "package { ['a', 'b']: }",
+        PACKAGES[0],
+        PACKAGES[1],
+    )
 }
 
 /// Words, a manifest, the status, and what is told on out and err.
@@ -195,10 +230,14 @@ type Asked = (
     &'static str,
 );
 
-fn all_told(rt: &(impl Abort + AllocGlobal), rows: &[Asked]) -> Result<(), Fail> {
-    for (words, manifest, status, out, err) in rows {
-        let told = asked(rt.alloc(), *words, *manifest)?;
-        compare(rt, &told, *status, *out, *err, *manifest);
+fn is_told(alloc: Global, row: &Asked) -> Result<(), Fail> {
+    let told = asked(alloc, row.0, row.1)?;
+    compare(alloc, &told, row.2, row.3, row.4, row.1)
+}
+
+fn all_told(alloc: Global, rows: &[Asked]) -> Result<(), Fail> {
+    for row in rows {
+        is_told(alloc, row)?;
     }
     Ok(())
 }
@@ -270,7 +309,7 @@ const NEVER: [Asked; 6] = [
 
 #[test]
 fn manifests_that_never_succeed(rt: HostRuntime) -> Result<(), Fail> {
-    all_told(&rt, &NEVER)
+    all_told(rt.alloc(), &NEVER)
 }
 
 /// A manifest of which a second run changes something, the lines in front of the tree, and those behind it: how the second run ends,
@@ -309,34 +348,35 @@ const EXPLAIN_WEB: &[&str] = &[
 ];
 
 /// Behind the tree the lines begin and end as a row has them.
-fn changes_again(rt: &impl Abort, rest: &str, row: &Again) {
+fn changes_again(alloc: Global, rest: &str, row: &Again) -> Result<(), Fail> {
     let (_, lines) = behind(rest, "tree ");
-    assert!(rt; lines.starts_with(row.2), "{}", row.0);
-    assert!(rt; lines.ends_with(row.3), "{}", row.0);
+    begins(alloc, row.0, lines, row.2)?;
+    holds(alloc, &["end, ", lines], lines.ends_with(row.3))
 }
 
-fn is_changed_again(rt: &(impl Abort + AllocGlobal), row: &Again) -> Result<(), Fail> {
-    let told = asked(rt.alloc(), EXPLAIN_WEB, row.0)?;
-    assert_eq!(rt; told.status, 2, "{}", row.0);
-    assert_eq!(rt; told.err.len(), 0, "{}", row.0);
-    changes_again(
-        rt,
-        told.out.as_str().strip_prefix(row.1).unwrap_or("?"),
-        row,
-    );
-    Ok(())
+/// What a second run changes was told on out alone, as a row has it.
+fn tells_again(alloc: Global, told: &Told, row: &Again) -> Result<(), Fail> {
+    compare_status(alloc, told, 2, row.0)?;
+    compare_err(alloc, told, "", row.0)?;
+    let rest = told.out.as_str().strip_prefix(row.1).unwrap_or("?");
+    changes_again(alloc, rest, row)
 }
 
-fn all_changed_again(rt: &(impl Abort + AllocGlobal), rows: &[Again]) -> Result<(), Fail> {
+fn is_changed_again(alloc: Global, row: &Again) -> Result<(), Fail> {
+    let told = asked(alloc, EXPLAIN_WEB, row.0)?;
+    tells_again(alloc, &told, row)
+}
+
+fn all_changed_again(alloc: Global, rows: &[Again]) -> Result<(), Fail> {
     for row in rows {
-        is_changed_again(rt, row)?;
+        is_changed_again(alloc, row)?;
     }
     Ok(())
 }
 
 #[test]
 fn second_runs_that_are_explained(rt: HostRuntime) -> Result<(), Fail> {
-    all_changed_again(&rt, &AGAIN)
+    all_changed_again(rt.alloc(), &AGAIN)
 }
 
 /// What is told with a node, and what is refused.
@@ -409,5 +449,5 @@ const ASIDE: [Asked; 8] = [
 
 #[test]
 fn nodes_and_refusals(rt: HostRuntime) -> Result<(), Fail> {
-    all_told(&rt, &ASIDE)
+    all_told(rt.alloc(), &ASIDE)
 }

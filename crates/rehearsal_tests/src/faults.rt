@@ -1,7 +1,7 @@
 //! Reads and writes that fail.
 
 use crate::common::{Failing, compare, run_failing};
-use std::process::Abort;
+use std::alloc::Global;
 use std::test::Fail;
 
 /// The first half of a report on one resource.
@@ -11,14 +11,17 @@ const HALF: &str = "resources 1\npruned 1\ndeterministic\n";
 const USAGE_HALF: &str =
     "usage: rehearsal [--facts F] [--packages P] [--node N] [--conflicts C] [--ask A] [--tree T] [--order O] [--workloa";
 
-/// Each row: a word, the calls that fail, the status, and what stands on out and err.
-fn all_fail(
-    rt: &(impl Abort + AllocGlobal),
-    rows: &[(&str, Failing, u8, &str, &str)],
-) -> Result<(), Fail> {
-    for (word, failing, status, out, err) in rows {
-        let told = run_failing(rt.alloc(), &[*word], failing)?;
-        compare(rt, &told, *status, *out, *err, *word);
+/// A word, the calls that fail, the status, and what stands on out and err.
+type Row = (&'static str, Failing, u8, &'static str, &'static str);
+
+fn fails(alloc: Global, row: &Row) -> Result<(), Fail> {
+    let told = run_failing(alloc, &[row.0], &row.1)?;
+    compare(alloc, &told, row.2, row.3, row.4, row.0)
+}
+
+fn all_fail(alloc: Global, rows: &[Row]) -> Result<(), Fail> {
+    for row in rows {
+        fails(alloc, row)?;
     }
     Ok(())
 }
@@ -26,7 +29,7 @@ fn all_fail(
 #[test]
 fn the_status_of_what_fails(rt: HostRuntime) -> Result<(), Fail> {
     all_fail(
-        &rt,
+        rt.alloc(),
         &[
             ("site.pp", (&[1], &[], &[]), 6, "", "read fault: site.pp\n"),
             ("other", (&[], &[], &[]), 6, "", "read fault: other\n"),

@@ -1,12 +1,11 @@
 //! Folders and links that every host has: what is told where they are given, and which texts of them are refused.
 
-use crate::common::{Told, compare, run_over};
-use crate::equal::{differ, read_apart};
+use crate::common::{Told, begins, compare, compare_status, compare_told, has, holds, run_over};
+use crate::equal::{Apart, differ, read_apart};
 use crate::run_again::{Runs, read_runs};
-use crate::verify::is_told;
 use std::alloc::Global;
-use std::process::Abort;
 use std::test::Fail;
+use test_rows::same;
 
 const LISTING: &str = concat!(
     r#"{"version":2,"packages":{"p":{"files":[["/etc/p",null]],"folders":[]},"cron":{"files":[["/lib/systemd/system/cron.service","d1"]],"folders":[]},"#,
@@ -210,30 +209,44 @@ const ROWS: [Row; 17] = [
     ),
 ];
 
-/// Each row: words, a manifest and what is given, and what is told of them with this status.
-fn all_told(
-    rt: &(impl Abort + AllocGlobal),
-    status: u8,
-    rows: &[(&[&str], &str, &str, &str)],
-) -> Result<(), Fail> {
-    for (words, manifest, given, want) in rows {
-        let told = asked(rt.alloc(), *words, *manifest, *given)?;
-        is_told(rt, &told, status, *want, *manifest);
+/// A row is told so with this status.
+fn is_told(alloc: Global, status: u8, row: &Row) -> Result<(), Fail> {
+    let told = asked(alloc, row.0, row.1, row.2)?;
+    compare_told(alloc, &told, status, row.3, row.1)
+}
+
+/// Each row is told so with this status.
+fn all_told(alloc: Global, status: u8, rows: &[Row]) -> Result<(), Fail> {
+    for row in rows {
+        is_told(alloc, status, row)?;
     }
     Ok(())
 }
 
 #[test]
 fn what_is_told_where_folders_are_given(rt: HostRuntime) -> Result<(), Fail> {
-    all_told(&rt, 0, &ROWS)
+    all_told(rt.alloc(), 0, &ROWS)
+}
+
+/// Nothing was told to be given.
+fn tells_none(alloc: Global, told: &Told, status: u8, manifest: &str) -> Result<(), Fail> {
+    compare_status(alloc, told, status, manifest)?;
+    holds(
+        alloc,
+        &["none given, ", manifest],
+        !told.out.as_str().contains("given"),
+    )
+}
+
+fn is_without(alloc: Global, words: &[&str], manifest: &str, status: u8) -> Result<(), Fail> {
+    let told = asked(alloc, words, manifest, "")?;
+    tells_none(alloc, &told, status, manifest)
 }
 
 /// Each row: words that give nothing, a manifest, and the status; and nothing is told to be given.
-fn all_without(rt: &(impl Abort + AllocGlobal), rows: &[(&[&str], &str, u8)]) -> Result<(), Fail> {
+fn all_without(alloc: Global, rows: &[(&[&str], &str, u8)]) -> Result<(), Fail> {
     for (words, manifest, status) in rows {
-        let told = asked(rt.alloc(), *words, *manifest, "")?;
-        assert_eq!(rt; told.status, *status, "{manifest}");
-        assert!(rt; !told.out.as_str().contains("given"), "{manifest}");
+        is_without(alloc, *words, *manifest, *status)?;
     }
     Ok(())
 }
@@ -241,7 +254,7 @@ fn all_without(rt: &(impl Abort + AllocGlobal), rows: &[(&[&str], &str, u8)]) ->
 #[test]
 fn what_is_told_where_none_are(rt: HostRuntime) -> Result<(), Fail> {
     all_without(
-        &rt,
+        rt.alloc(),
         &[
             (&["--packages", "listing", "site.pp"], MOTD, 1),
             (
@@ -260,35 +273,42 @@ fn what_is_told_where_none_are(rt: HostRuntime) -> Result<(), Fail> {
 }
 
 /// The tree that is told has each of these members.
-fn has_members(rt: &impl Abort, tree: &str, members: &[&str]) {
+fn has_members(alloc: Global, tree: &str, members: &[&str]) -> Result<(), Fail> {
     for member in members {
-        assert!(rt; tree.contains(*member), "{tree}");
+        has(alloc, "tree", tree, *member)?;
     }
-}
-
-/// Behind these lines two outcomes are told that differ, from a tree that has each of these members.
-fn matters(
-    rt: &(impl Abort + AllocGlobal),
-    manifest: &str,
-    given: &str,
-    head: &str,
-    members: &[&str],
-) -> Result<(), Fail> {
-    let told = asked(rt.alloc(), VERIFY, manifest, given)?;
-    assert_eq!(rt; told.status, 1, "{manifest}");
-    let apart = read_apart(told.out.as_str().strip_prefix(head).unwrap_or("?"));
-    has_members(rt, apart.tree, members);
-    differ(rt, &apart, manifest);
     Ok(())
 }
 
-/// Each row: a manifest and what is given, the lines in front of the tree, and members of it.
-fn all_matter(
-    rt: &(impl Abort + AllocGlobal),
-    rows: &[(&str, &str, &str, &[&str])],
-) -> Result<(), Fail> {
-    for (manifest, given, head, members) in rows {
-        matters(rt, *manifest, *given, *head, *members)?;
+/// A manifest and what is given, the lines in front of the tree, and members of it.
+type Members = (
+    &'static str,
+    &'static str,
+    &'static str,
+    &'static [&'static str],
+);
+
+/// The outcomes differ, from a tree that has each of the members of a row.
+fn are_apart(alloc: Global, apart: &Apart, row: &Members) -> Result<(), Fail> {
+    has_members(alloc, apart.tree, row.3)?;
+    differ(alloc, apart, row.0)
+}
+
+/// Behind the lines of a row two outcomes were told that differ.
+fn tells_apart(alloc: Global, told: &Told, row: &Members) -> Result<(), Fail> {
+    compare_status(alloc, told, 1, row.0)?;
+    let apart = read_apart(told.out.as_str().strip_prefix(row.2).unwrap_or("?"));
+    are_apart(alloc, &apart, row)
+}
+
+fn matters(alloc: Global, row: &Members) -> Result<(), Fail> {
+    let told = asked(alloc, VERIFY, row.0, row.1)?;
+    tells_apart(alloc, &told, row)
+}
+
+fn all_matter(alloc: Global, rows: &[Members]) -> Result<(), Fail> {
+    for row in rows {
+        matters(alloc, row)?;
     }
     Ok(())
 }
@@ -297,7 +317,7 @@ fn all_matter(
 #[test]
 fn orders_that_matter(rt: HostRuntime) -> Result<(), Fail> {
     all_matter(
-        &rt,
+        rt.alloc(),
         &[
             (
                 UNIT,
@@ -321,44 +341,64 @@ fn orders_that_matter(rt: HostRuntime) -> Result<(), Fail> {
     )
 }
 
-/// The outcomes of a text differ at this place alone.
-fn differs_at(rt: &impl Abort, text: &str, place: &str) {
-    let (_, at) = text.split_once("\nat ").unwrap_or(("", "?"));
-    assert!(rt; at.starts_with(place), "{at}");
-    assert!(rt; !at.contains("\nat "), "{at}");
+/// The outcomes were told to differ at this place alone.
+fn tells_place(alloc: Global, told: &Told, place: &str) -> Result<(), Fail> {
+    compare_status(alloc, told, 1, place)?;
+    let (_, at) = told.out.as_str().split_once("\nat ").unwrap_or(("", "?"));
+    begins(alloc, "at", at, place)?;
+    holds(alloc, &["one place, ", at], !at.contains("\nat "))
+}
+
+/// The outcomes of a manifest differ at this place alone.
+fn differs_at(alloc: Global, manifest: &str, given: &str, place: &str) -> Result<(), Fail> {
+    let told = asked(alloc, EXPLAIN, manifest, given)?;
+    tells_place(alloc, &told, place)
 }
 
 /// Both names of one place are one path of the outcomes.
 #[test]
 fn one_place_under_two_names(rt: HostRuntime) -> Result<(), Fail> {
-    let told = asked(rt.alloc(), EXPLAIN, UNIT, LIB)?;
-    assert_eq!(rt; told.status, 1);
     differs_at(
-        &rt,
-        told.out.as_str(),
+        rt.alloc(),
+        UNIT,
+        LIB,
         "\"/usr/lib/systemd/system/cron.service\": ",
-    );
-    Ok(())
+    )
 }
 
 /// The folder stands in the tree and behind the second run, but not behind the first.
-fn is_made_again(rt: &impl Abort, runs: &Runs) {
-    has_members(rt, runs.tree, &[r#""/srv":null"#, r#""/srv/x":null"#]);
-    assert!(rt; !runs.first.contains("/srv/x"), "{}", runs.first);
-    assert!(rt; runs.second.contains("/srv/x"), "{}", runs.second);
-    assert_eq!(rt; runs.rest, "succeeds from some tree\n");
+fn is_made_again(alloc: Global, runs: &Runs) -> Result<(), Fail> {
+    has_members(alloc, runs.tree, &[r#""/srv":null"#, r#""/srv/x":null"#])?;
+    holds(
+        alloc,
+        &["gone, ", runs.first],
+        !runs.first.contains("/srv/x"),
+    )?;
+    has(alloc, "second run", runs.second, "/srv/x")?;
+    same(alloc, "rest", runs.rest, "succeeds from some tree\n")
+}
+
+/// Behind these lines a second run was told that makes the folder again.
+fn tells_again(alloc: Global, told: &Told, head: &str) -> Result<(), Fail> {
+    compare_status(alloc, told, 2, head)?;
+    let runs = read_runs(told.out.as_str().strip_prefix(head).unwrap_or("?"));
+    is_made_again(alloc, &runs)
+}
+
+/// A second run of the manifest makes the folder again, which is told behind these lines.
+fn makes_again(alloc: Global, manifest: &str, head: &str) -> Result<(), Fail> {
+    let told = asked(alloc, VERIFY, manifest, SRV)?;
+    tells_again(alloc, &told, head)
 }
 
 /// The folder stands when a first run begins, which removes it; a second one makes it again.
 #[test]
 fn second_runs_where_a_folder_is_gone(rt: HostRuntime) -> Result<(), Fail> {
-    let manifest = "file { '/srv/x': ensure => directory } -> package { 'x': ensure => absent }";
-    let told = asked(rt.alloc(), VERIFY, manifest, SRV)?;
-    assert_eq!(rt; told.status, 2);
-    let head = "resources 2\ngiven 2\npruned 2\ndeterministic\nnot idempotent\n";
-    let runs = read_runs(told.out.as_str().strip_prefix(head).unwrap_or("?"));
-    is_made_again(&rt, &runs);
-    Ok(())
+    makes_again(
+        rt.alloc(),
+        "file { '/srv/x': ensure => directory } -> package { 'x': ensure => absent }",
+        "resources 2\ngiven 2\npruned 2\ndeterministic\nnot idempotent\n",
+    )
 }
 
 /// Texts of folders and links that give nothing.
@@ -389,17 +429,22 @@ const TEXTS: [&str; 24] = [
     r#"{"version":1,"folders":["/lib/x"],"links":{"/lib":"/usr/lib"}}"#,
 ];
 
-fn all_give_nothing(rt: &(impl Abort + AllocGlobal), rows: &[&str]) -> Result<(), Fail> {
+/// A text is refused with this line.
+fn is_refused(alloc: Global, text: &str, line: &str, row: &str) -> Result<(), Fail> {
+    let told = asked(alloc, VERIFY, "", text)?;
+    compare(alloc, &told, 4, "", line, row)
+}
+
+fn all_give_nothing(alloc: Global, rows: &[&str]) -> Result<(), Fail> {
     for text in rows {
-        let told = asked(rt.alloc(), VERIFY, "", *text)?;
-        compare(rt, &told, 4, "", "refused 67 at 0: given\n", *text);
+        is_refused(alloc, *text, "refused 67 at 0: given\n", *text)?;
     }
     Ok(())
 }
 
 #[test]
 fn texts_that_give_nothing(rt: HostRuntime) -> Result<(), Fail> {
-    all_give_nothing(&rt, &TEXTS)
+    all_give_nothing(rt.alloc(), &TEXTS)
 }
 
 /// A run from the tree `none`.
@@ -410,7 +455,7 @@ const TOLD: &[&str] = &[
 #[test]
 fn refusals_where_folders_are_given(rt: HostRuntime) -> Result<(), Fail> {
     all_told(
-        &rt,
+        rt.alloc(),
         4,
         &[
             // A tree in which the folder doesn't stand; a text that gives nothing comes first.
@@ -457,16 +502,27 @@ fn refusals_where_folders_are_given(rt: HostRuntime) -> Result<(), Fail> {
 }
 
 /// The refusal of so many blanks.
-fn is_refused(rt: &(impl Abort + AllocGlobal), length: usize, line: &str) -> Result<(), Fail> {
-    let text = " ".repeat(rt.alloc(), length)?;
-    let told = asked(rt.alloc(), VERIFY, "", text.as_str())?;
-    compare(rt, &told, 4, "", line, "a long text");
+fn is_long(alloc: Global, length: usize, line: &str) -> Result<(), Fail> {
+    let text = " ".repeat(alloc, length)?;
+    is_refused(alloc, text.as_str(), line, "a long text")
+}
+
+/// Each row: how many blanks there are, and their refusal.
+fn all_long(alloc: Global, rows: &[(usize, &str)]) -> Result<(), Fail> {
+    for (length, line) in rows {
+        is_long(alloc, *length, *line)?;
+    }
     Ok(())
 }
 
 /// A text at the limit and one over it.
 #[test]
 fn texts_that_are_long(rt: HostRuntime) -> Result<(), Fail> {
-    is_refused(&rt, 1_048_576, "refused 67 at 0: given\n")?;
-    is_refused(&rt, 1_048_577, "refused 17 at 0: given\n")
+    all_long(
+        rt.alloc(),
+        &[
+            (1_048_576, "refused 67 at 0: given\n"),
+            (1_048_577, "refused 17 at 0: given\n"),
+        ],
+    )
 }

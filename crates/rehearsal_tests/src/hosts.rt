@@ -1,9 +1,8 @@
 //! Fourteen hosts whose catalogs Puppet compiled: what is told of each, alone and with a listing and assumptions.
 
-use crate::common::{Told, compare, run_over};
-use crate::workloads::is_well;
+use crate::common::{Told, compare, compare_head, compare_status, has, run_over};
+use crate::workloads::tells_well;
 use std::alloc::Global;
-use std::process::Abort;
 use std::test::Fail;
 use test_hosts as host;
 
@@ -60,11 +59,16 @@ type Refused = (
     &'static str,
 );
 
+/// What is told of a row is the refusal of the first resource of which nothing can be said.
+fn is_refused(alloc: Global, row: &Refused) -> Result<(), Fail> {
+    let told = asked(alloc, row.1, row.0, row.2)?;
+    compare(alloc, &told, 4, "", row.3, row.3)
+}
+
 /// Each row: what is told is the refusal of the first resource of which nothing can be said.
-fn all_refused(rt: &(impl Abort + AllocGlobal), rows: &[Refused]) -> Result<(), Fail> {
-    for (catalog, words, assumed, line) in rows {
-        let told = asked(rt.alloc(), *words, *catalog, *assumed)?;
-        compare(rt, &told, 4, "", *line, *line);
+fn all_refused(alloc: Global, rows: &[Refused]) -> Result<(), Fail> {
+    for row in rows {
+        is_refused(alloc, row)?;
     }
     Ok(())
 }
@@ -72,7 +76,7 @@ fn all_refused(rt: &(impl Abort + AllocGlobal), rows: &[Refused]) -> Result<(), 
 #[test]
 fn what_is_refused_of_packages_users_and_commands(rt: HostRuntime) -> Result<(), Fail> {
     all_refused(
-        &rt,
+        rt.alloc(),
         &[
             (
                 host::NGINX_PROFILE,
@@ -111,7 +115,7 @@ fn what_is_refused_of_packages_users_and_commands(rt: HostRuntime) -> Result<(),
 #[test]
 fn what_is_refused_of_folders_and_stages(rt: HostRuntime) -> Result<(), Fail> {
     all_refused(
-        &rt,
+        rt.alloc(),
         &[
             (
                 host::CONFD,
@@ -138,7 +142,7 @@ fn what_is_refused_of_folders_and_stages(rt: HostRuntime) -> Result<(), Fail> {
 #[test]
 fn values_that_are_refused_one_after_the_other(rt: HostRuntime) -> Result<(), Fail> {
     all_refused(
-        &rt,
+        rt.alloc(),
         &[
             (
                 host::VALUES,
@@ -183,7 +187,7 @@ fn values_that_are_refused_one_after_the_other(rt: HostRuntime) -> Result<(), Fa
 #[test]
 fn what_is_refused_of_databases_and_mail(rt: HostRuntime) -> Result<(), Fail> {
     all_refused(
-        &rt,
+        rt.alloc(),
         &[
             (
                 host::POSTGRES_MANUAL,
@@ -233,10 +237,14 @@ type Answered = (
     &'static str,
 );
 
-fn all_answered(rt: &(impl Abort + AllocGlobal), rows: &[Answered]) -> Result<(), Fail> {
-    for (catalog, words, assumed, head) in rows {
-        let told = asked(rt.alloc(), *words, *catalog, *assumed)?;
-        is_well(rt, &told, *head);
+fn is_answered(alloc: Global, row: &Answered) -> Result<(), Fail> {
+    let told = asked(alloc, row.1, row.0, row.2)?;
+    tells_well(alloc, &told, row.3)
+}
+
+fn all_answered(alloc: Global, rows: &[Answered]) -> Result<(), Fail> {
+    for row in rows {
+        is_answered(alloc, row)?;
     }
     Ok(())
 }
@@ -244,7 +252,7 @@ fn all_answered(rt: &(impl Abort + AllocGlobal), rows: &[Answered]) -> Result<()
 #[test]
 fn what_is_answered_of_packages_and_users(rt: HostRuntime) -> Result<(), Fail> {
     all_answered(
-        &rt,
+        rt.alloc(),
         &[
             (host::NGINX_PROFILE, LISTED, "", "resources 6\npruned 6\n"),
             (
@@ -262,7 +270,7 @@ fn what_is_answered_of_packages_and_users(rt: HostRuntime) -> Result<(), Fail> {
 #[test]
 fn what_is_answered_of_commands_and_folders(rt: HostRuntime) -> Result<(), Fail> {
     all_answered(
-        &rt,
+        rt.alloc(),
         &[
             (
                 host::APP_TARBALL,
@@ -294,7 +302,7 @@ fn what_is_answered_of_commands_and_folders(rt: HostRuntime) -> Result<(), Fail>
 #[test]
 fn what_is_answered_of_values_and_databases(rt: HostRuntime) -> Result<(), Fail> {
     all_answered(
-        &rt,
+        rt.alloc(),
         &[
             (
                 host::VALUES,
@@ -318,7 +326,7 @@ fn what_is_answered_of_values_and_databases(rt: HostRuntime) -> Result<(), Fail>
 #[test]
 fn what_is_answered_where_the_host_has_files(rt: HostRuntime) -> Result<(), Fail> {
     all_answered(
-        &rt,
+        rt.alloc(),
         &[
             // The two files and vim need /etc, of which nothing else makes sure. But without /etc no run ends: the host's line needs a file there.
             (
@@ -345,32 +353,44 @@ fn what_is_answered_where_the_host_has_files(rt: HostRuntime) -> Result<(), Fail
     )
 }
 
+/// A catalog is told with status 1, and with these lines in front, where this is assumed.
+fn differs(alloc: Global, catalog: &str, assumed: &str, head: &str) -> Result<(), Fail> {
+    let told = asked(alloc, ASSUMED, catalog, assumed)?;
+    compare_head(alloc, &told, 1, head, assumed)
+}
+
 /// Where the host's line does nothing, the empty tree shows that either file may come ahead of the package that brings /etc.
 #[test]
 fn a_file_ahead_of_its_folder(rt: HostRuntime) -> Result<(), Fail> {
-    let assumed = r#"{"version":1,"resources":{"Host":"none","Tidy":"none","Mount":"none"}}"#;
-    let told = asked(rt.alloc(), ASSUMED, host::MOTD_HOSTS, assumed)?;
-    let head = "resources 13\nassumed 3\npruned 10\nnot deterministic\n";
-    assert!(rt;
-        told.out.as_str().starts_with(head),
-        "{}",
-        told.out.as_str()
-    );
-    assert_eq!(rt; told.status, 1);
-    Ok(())
+    differs(
+        rt.alloc(),
+        host::MOTD_HOSTS,
+        r#"{"version":1,"resources":{"Host":"none","Tidy":"none","Mount":"none"}}"#,
+        "resources 13\nassumed 3\npruned 10\nnot deterministic\n",
+    )
+}
+
+/// The graph that was told has a line.
+fn tells_line(alloc: Global, told: &Told, line: &str) -> Result<(), Fail> {
+    compare_status(alloc, told, 0, line)?;
+    has(alloc, "graph", told.out.as_str(), line)
+}
+
+/// The graph of a catalog has a line.
+fn is_before(alloc: Global, catalog: &str, line: &str) -> Result<(), Fail> {
+    let told = asked(
+        alloc,
+        &["--ask", "graph", "--compiled", "host"],
+        catalog,
+        "",
+    )?;
+    tells_line(alloc, &told, line)
 }
 
 /// Each row: a catalog, and a line of its graph.
-fn all_before(rt: &(impl Abort + AllocGlobal), rows: &[(&str, &str)]) -> Result<(), Fail> {
+fn all_before(alloc: Global, rows: &[(&str, &str)]) -> Result<(), Fail> {
     for (catalog, line) in rows {
-        let told = asked(
-            rt.alloc(),
-            &["--ask", "graph", "--compiled", "host"],
-            *catalog,
-            "",
-        )?;
-        assert!(rt; told.out.as_str().contains(*line), "{line}");
-        assert_eq!(rt; told.status, 0, "{line}");
+        is_before(alloc, *catalog, *line)?;
     }
     Ok(())
 }
@@ -379,7 +399,7 @@ fn all_before(rt: &(impl Abort + AllocGlobal), rows: &[(&str, &str)]) -> Result<
 #[test]
 fn what_comes_before(rt: HostRuntime) -> Result<(), Fail> {
     all_before(
-        &rt,
+        rt.alloc(),
         &[
             (
                 host::VIRTUAL_EXPORTED,

@@ -2,6 +2,7 @@
 
 use std::alloc::Global;
 use std::test::Fail;
+use test_rows::joined;
 
 /// The packages: each has a file of its own folder and a unit of its name. The first two have one file with two contents.
 pub const LISTING: &str = concat!(
@@ -57,7 +58,7 @@ impl Coins {
 
 /// Puts a line ahead of the manifest or behind it.
 fn put(alloc: Global, coins: &mut Coins, line: &str, manifest: &mut String) -> Result<(), Fail> {
-    let held = format!(in alloc; "{line}\n")?;
+    let held = joined(alloc, &[line, "\n"])?;
     if coins.is_head() {
         manifest.insert_str(0, held.as_str())?;
     } else {
@@ -75,9 +76,12 @@ fn part_line(
 ) -> Result<String, Fail> {
     let (front, back) = part;
     if is_plain {
-        return Ok(format!(in alloc; "{front}{name}{back} }}")?);
+        return Ok(joined(alloc, &[front, name, back, " }"])?);
     }
-    Ok(format!(in alloc; "{front}{name}{back}, require => Package['{name}'] }}")?)
+    Ok(joined(
+        alloc,
+        &[front, name, back, ", require => Package['", name, "'] }"],
+    )?)
 }
 
 /// Puts a part of a package, with its arrow or without it.
@@ -93,6 +97,17 @@ fn put_part(
     put(alloc, coins, line.as_str(), manifest)
 }
 
+/// Puts a package.
+fn put_name(
+    alloc: Global,
+    coins: &mut Coins,
+    name: &str,
+    manifest: &mut String,
+) -> Result<(), Fail> {
+    let line = joined(alloc, &["package { '", name, "': }"])?;
+    put(alloc, coins, line.as_str(), manifest)
+}
+
 /// Puts a package and some of what goes with it.
 fn put_package(
     alloc: Global,
@@ -100,8 +115,7 @@ fn put_package(
     name: &str,
     manifest: &mut String,
 ) -> Result<(), Fail> {
-    let line = format!(in alloc; "package {{ '{name}': }}")?;
-    put(alloc, coins, line.as_str(), manifest)?;
+    put_name(alloc, coins, name, manifest)?;
     for part in PARTS {
         if coins.is_usual() {
             put_part(alloc, coins, part, name, manifest)?;
@@ -130,11 +144,16 @@ fn put_others(alloc: Global, coins: &mut Coins, manifest: &mut String) -> Result
     Ok(())
 }
 
+/// Puts some of the packages, and some of what stands beside them.
+fn put_all(alloc: Global, coins: &mut Coins, manifest: &mut String) -> Result<(), Fail> {
+    put_packages(alloc, coins, manifest)?;
+    put_others(alloc, coins, manifest)
+}
+
 /// The manifest of a number.
 pub fn made_up(alloc: Global, seed: u32) -> Result<String, Fail> {
     let mut coins = Coins { state: seed };
     let mut manifest = String::new(alloc);
-    put_packages(alloc, &mut coins, &mut manifest)?;
-    put_others(alloc, &mut coins, &mut manifest)?;
+    put_all(alloc, &mut coins, &mut manifest)?;
     Ok(manifest)
 }

@@ -1,13 +1,10 @@
 //! Manifests with the arrows that they lack.
 
-use crate::common::{Told, compare, run_over};
+use crate::common::{Site, Told, compare, compare_status, has, holds, push_all, run_over};
 use crate::differences::behind;
 use std::alloc::Global;
-use std::process::Abort;
 use std::test::Fail;
-
-/// A manifest, and the listing beside it.
-pub type Site<'a> = (&'a str, &'a str);
+use test_rows::{joined, number_text, same, same_number};
 
 const FACTS: &str = r#"{"hostname":"web1","os":{"family":"Debian"}}"#;
 
@@ -42,7 +39,7 @@ fn is_resource(line: &str) -> bool {
 
 /// Whether one resource of a graph comes before another, or is it.
 fn reaches(alloc: Global, graph: &str, a: &str, b: &str) -> Result<bool, Fail> {
-    let line = format!(in alloc; "\n{a} -> {b}\n")?;
+    let line = joined(alloc, &["\n", a, " -> ", b, "\n"])?;
     let is_told = graph.contains(line.as_str());
     Ok(a == b || is_told)
 }
@@ -64,8 +61,24 @@ fn push_pairs(
 ) -> Result<(), Fail> {
     for b in graph.split('\n') {
         if is_new(alloc, graph, a, to, b)? {
-            let line = format!(in alloc; "{a} -> {b}\n")?;
-            more.push_str(line.as_str())?;
+            push_all(more, &[a, " -> ", b, "\n"])?;
+        }
+    }
+    Ok(())
+}
+
+/// Adds that what comes before the one end of an arrow comes before the other one too.
+fn push_arrow(
+    alloc: Global,
+    graph: &str,
+    from: &str,
+    to: &str,
+    more: &mut String,
+) -> Result<(), Fail> {
+    for a in graph.split('\n') {
+        let is_ahead = is_resource(a) && reaches(alloc, graph, a, from)?;
+        if is_ahead {
+            push_pairs(alloc, graph, a, to, more)?;
         }
     }
     Ok(())
@@ -74,12 +87,7 @@ fn push_pairs(
 /// The graph with an arrow.
 fn with_arrow(alloc: Global, graph: &str, from: &str, to: &str) -> Result<String, Fail> {
     let mut more = String::from_str(alloc, graph)?;
-    for a in graph.split('\n') {
-        let is_ahead = is_resource(a) && reaches(alloc, graph, a, from)?;
-        if is_ahead {
-            push_pairs(alloc, graph, a, to, &mut more)?;
-        }
-    }
+    push_arrow(alloc, graph, from, to, &mut more)?;
     Ok(more)
 }
 
@@ -97,12 +105,17 @@ fn reference(alloc: Global, written: &str) -> Result<String, Fail> {
     Ok(plain)
 }
 
+/// The graph with an arrow from a resource to one that is written as in a manifest.
+fn with_arrow_to(alloc: Global, graph: &str, from: &str, to: &str) -> Result<String, Fail> {
+    let to = reference(alloc, to)?;
+    with_arrow(alloc, graph, from, to.as_str())
+}
+
 /// The graph with an arrow that is written as in a manifest.
 fn with_line(alloc: Global, graph: &str, arrow: &str) -> Result<String, Fail> {
     let (from, to) = arrow.split_once(" -> ").unwrap_or(("?", "?"));
     let from = reference(alloc, from)?;
-    let to = reference(alloc, to)?;
-    with_arrow(alloc, graph, from.as_str(), to.as_str())
+    with_arrow_to(alloc, graph, from.as_str(), to)
 }
 
 /// The graph with arrows, a line each.
@@ -116,38 +129,31 @@ fn with_lines(alloc: Global, graph: &str, arrows: &str) -> Result<String, Fail> 
     Ok(all)
 }
 
-/// Whether a line is empty or stands in a text that begins with a line's end.
-fn has_line(alloc: Global, held: &str, line: &str) -> Result<bool, Fail> {
-    let framed = format!(in alloc; "\n{line}\n")?;
-    Ok(line.is_empty() || held.contains(framed.as_str()))
+/// A line is empty or stands in a text that begins with a line's end.
+fn has_line(alloc: Global, held: &str, line: &str, row: &str) -> Result<(), Fail> {
+    let framed = joined(alloc, &["\n", line, "\n"])?;
+    let is_there = line.is_empty() || held.contains(framed.as_str());
+    holds(alloc, &[line, " in ", row], is_there)
 }
 
-/// Each line of a text stands in the other one.
-fn has_lines(
-    alloc: Global,
-    rt: &impl Abort,
-    left: &str,
-    right: &str,
-    row: &str,
-) -> Result<(), Fail> {
-    let held = format!(in alloc; "\n{right}")?;
+/// Each line of a text stands in the other one, which begins with a line's end.
+fn are_held(alloc: Global, left: &str, held: &str, row: &str) -> Result<(), Fail> {
     for line in left.split('\n') {
-        let is_there = has_line(alloc, held.as_str(), line)?;
-        assert!(rt; is_there, "{line} in {row}");
+        has_line(alloc, held, line, row)?;
     }
     Ok(())
 }
 
+/// Each line of a text stands in the other one.
+fn has_lines(alloc: Global, left: &str, right: &str, row: &str) -> Result<(), Fail> {
+    let held = joined(alloc, &["\n", right])?;
+    are_held(alloc, left, held.as_str(), row)
+}
+
 /// Two texts have the same lines, of which none stands twice.
-fn have_same_lines(
-    alloc: Global,
-    rt: &impl Abort,
-    left: &str,
-    right: &str,
-    row: &str,
-) -> Result<(), Fail> {
-    assert_eq!(rt; left.len(), right.len(), "{row}");
-    has_lines(alloc, rt, left, right, row)
+fn have_same_lines(alloc: Global, left: &str, right: &str, row: &str) -> Result<(), Fail> {
+    same_number(alloc, row, right.len() as u64, left.len() as u64)?;
+    has_lines(alloc, left, right, row)
 }
 
 /// The graph of a manifest, with arrows.
@@ -156,38 +162,33 @@ fn graph_with(alloc: Global, site: Site, arrows: &str) -> Result<String, Fail> {
     with_lines(alloc, graph.out.as_str(), arrows)
 }
 
-/// The manifest has the graph of the other one with just these arrows.
-fn has_these_arrows(
-    alloc: Global,
-    rt: &impl Abort,
-    site: Site,
-    with: Site,
-    arrows: &str,
-) -> Result<(), Fail> {
-    let wanted = graph_with(alloc, site, arrows)?;
-    let mended = asked(alloc, &GRAPH, with)?;
-    have_same_lines(alloc, rt, wanted.as_str(), mended.out.as_str(), with.0)
+/// The manifest has the graph that is wanted.
+fn has_graph(alloc: Global, site: Site, wanted: &str) -> Result<(), Fail> {
+    let mended = asked(alloc, &GRAPH, site)?;
+    have_same_lines(alloc, wanted, mended.out.as_str(), site.0)
 }
 
-fn is_deterministic(alloc: Global, rt: &impl Abort, site: Site) -> Result<(), Fail> {
+/// The manifest has the graph of the other one with just these arrows.
+fn has_these_arrows(alloc: Global, site: Site, with: Site, arrows: &str) -> Result<(), Fail> {
+    let wanted = graph_with(alloc, site, arrows)?;
+    has_graph(alloc, with, wanted.as_str())
+}
+
+fn is_deterministic(alloc: Global, site: Site) -> Result<(), Fail> {
     let judged = asked(alloc, &VERIFY, site)?;
-    let is_sure = judged.out.as_str().contains("\ndeterministic\n");
-    assert!(rt; is_sure, "{}", site.0);
-    Ok(())
+    has(alloc, site.0, judged.out.as_str(), "\ndeterministic\n")
 }
 
 /// This is told of the repair of the manifest.
-pub fn is_repaired(alloc: Global, rt: &impl Abort, site: Site, report: &str) -> Result<(), Fail> {
+pub fn is_repaired(alloc: Global, site: Site, report: &str) -> Result<(), Fail> {
     let told = asked(alloc, &REPAIR, site)?;
-    compare(rt, &told, 0, report, "", site.0);
-    Ok(())
+    compare(alloc, &told, 0, report, "", site.0)
 }
 
-/// The manifest is deterministic and lacks no arrow.
-fn lacks_none(alloc: Global, rt: &impl Abort, site: Site, count: &str) -> Result<(), Fail> {
-    is_deterministic(alloc, rt, site)?;
-    let report = format!(in alloc; "resources {count}\nedges 0\ndeterministic\n")?;
-    is_repaired(alloc, rt, site, report.as_str())
+/// The manifest of so many resources lacks no arrow.
+fn lacks_none(alloc: Global, site: Site, count: &str) -> Result<(), Fail> {
+    let report = joined(alloc, &["resources ", count, "\nedges 0\ndeterministic\n"])?;
+    is_repaired(alloc, site, report.as_str())
 }
 
 /// The arrows that are told to be missing.
@@ -210,27 +211,42 @@ fn read_repair(told: &str) -> Missing {
     }
 }
 
-/// With the lines of these arrows behind it the manifest is deterministic, lacks none, and has its graph with just these.
-fn are_missing(alloc: Global, rt: &impl Abort, site: Site, lacks: &Missing) -> Result<(), Fail> {
-    let with = format!(in alloc; "{}\n{}", site.0, lacks.arrows)?;
-    let mended = (with.as_str(), site.1);
-    lacks_none(alloc, rt, mended, lacks.resources)?;
-    has_these_arrows(alloc, rt, site, mended, lacks.arrows)
+/// A manifest with arrows behind it is deterministic, lacks none, and has the graph of the one without them with just these.
+fn mend(alloc: Global, site: Site, mended: Site, lacks: &Missing) -> Result<(), Fail> {
+    is_deterministic(alloc, mended)?;
+    lacks_none(alloc, mended, lacks.resources)?;
+    has_these_arrows(alloc, site, mended, lacks.arrows)
+}
+
+/// The lines of these arrows behind the manifest mend it.
+fn are_missing(alloc: Global, site: Site, lacks: &Missing) -> Result<(), Fail> {
+    let with = joined(alloc, &[site.0, "\n", lacks.arrows])?;
+    mend(alloc, site, (with.as_str(), site.1), lacks)
+}
+
+/// This is told to be the number of the arrows.
+fn is_count(alloc: Global, lacks: &Missing, count: u64, row: &str) -> Result<(), Fail> {
+    let shown = number_text(alloc, count)?;
+    same(alloc, row, lacks.count, shown.as_str())
 }
 
 /// As many arrows stand there as are told. How many.
-fn count_of(alloc: Global, rt: &impl Abort, lacks: &Missing, row: &str) -> Result<usize, Fail> {
-    let count = lacks.arrows.split('\n').count().saturating_sub(1);
-    let shown = format!(in alloc; "{count}")?;
-    assert_eq!(rt; lacks.count, shown.as_str(), "{row}");
+fn count_of(alloc: Global, lacks: &Missing, row: &str) -> Result<u64, Fail> {
+    let count = lacks.arrows.split('\n').count().saturating_sub(1) as u64;
+    is_count(alloc, lacks, count, row)?;
     Ok(count)
 }
 
-/// The arrows that are told to be missing mend the manifest. How many there are.
-pub fn is_mended(alloc: Global, rt: &impl Abort, site: Site) -> Result<usize, Fail> {
-    let told = asked(alloc, &REPAIR, site)?;
-    assert_eq!(rt; told.status, 0, "{}", site.0);
+/// The arrows that a repair told to be missing mend the manifest. How many there are.
+fn count_of_missing(alloc: Global, site: Site, told: &Told) -> Result<u64, Fail> {
+    compare_status(alloc, told, 0, site.0)?;
     let lacks = read_repair(told.out.as_str());
-    are_missing(alloc, rt, site, &lacks)?;
-    count_of(alloc, rt, &lacks, site.0)
+    are_missing(alloc, site, &lacks)?;
+    count_of(alloc, &lacks, site.0)
+}
+
+/// The arrows that are told to be missing mend the manifest. How many there are.
+pub fn is_mended(alloc: Global, site: Site) -> Result<u64, Fail> {
+    let told = asked(alloc, &REPAIR, site)?;
+    count_of_missing(alloc, site, &told)
 }

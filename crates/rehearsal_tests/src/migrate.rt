@@ -6,7 +6,7 @@ use std::test::Fail;
 #[test]
 fn listings_in_version_two(rt: HostRuntime) -> Result<(), Fail> {
     all_told(
-        &rt,
+        rt.alloc(),
         &["--ask", "migrate", "site.pp"],
         0,
         &[
@@ -37,7 +37,7 @@ fn listings_in_version_two(rt: HostRuntime) -> Result<(), Fail> {
 #[test]
 fn texts_that_are_no_listings(rt: HostRuntime) -> Result<(), Fail> {
     all_told(
-        &rt,
+        rt.alloc(),
         &["site.pp", "--ask=migrate"],
         4,
         &[

@@ -1,8 +1,9 @@
 //! Proofs that are printed: the program reads them back, and finds them right.
 
-use crate::common::{Told, compare, run};
-use std::process::Abort;
+use crate::common::{Told, compare, compare_err, compare_status, holds, run};
+use std::alloc::Global;
 use std::test::Fail;
+use test_rows::{number_text, numbered, same};
 
 /// The words, the manifest, the status, how many questions were refuted, and more variables than this has each formula.
 type Row = (&'static [&'static str], &'static str, u8, u32, u64);
@@ -47,52 +48,71 @@ fn variables(line: &str) -> Option<u64> {
 }
 
 /// So many proofs are told of, on the first line.
-fn has_proofs(rt: &impl Abort, text: &str, proofs: u32) {
+fn has_proofs(alloc: Global, text: &str, proofs: u32) -> Result<(), Fail> {
     let (first, _) = text.split_once('\n').unwrap_or((text, ""));
-    let count = first.strip_prefix("proofs ").unwrap_or("?");
-    assert_eq!(rt; count.parse::<u32>().ok(), Some(proofs), "{first}");
+    let count = number_text(alloc, proofs as u64)?;
+    same(
+        alloc,
+        first,
+        first.strip_prefix("proofs ").unwrap_or("?"),
+        count.as_str(),
+    )
 }
 
-/// Each formula has more variables than this.
-fn has_variables(rt: &impl Abort, text: &str, least: u64) {
-    for line in text.split('\n') {
-        if let Some(count) = variables(line) {
-            assert!(rt; count > least, "{count} variables");
-        }
+/// A line of a formula is of more variables than this, or tells no number of them.
+fn is_large(alloc: Global, line: &str, least: u64) -> Result<(), Fail> {
+    match variables(line) {
+        Some(count) => holds(alloc, &[line], count > least),
+        None => Ok(()),
     }
 }
 
-/// So many proofs are told of, whose formulas are as large, with this status.
-fn has_formulas(rt: &impl Abort, told: &Told, row: &Row) {
-    assert_eq!(rt; told.status, row.2, "{}", row.1);
-    assert_eq!(rt; told.err.len(), 0, "{}", row.1);
-    has_proofs(rt, told.out.as_str(), row.3);
-    has_variables(rt, told.out.as_str(), row.4);
-}
-
-/// The program reads so many proofs in a text, and finds them right.
-fn are_right(rt: &(impl Abort + AllocGlobal), text: &str, row: &Row) -> Result<(), Fail> {
-    let alloc = rt.alloc();
-    let line = format!(in alloc; "verified {}\n", row.3)?;
-    let checked = run(alloc, &["--ask", "check", "site.pp"], text.as_bytes())?;
-    compare(rt, &checked, 0, line.as_str(), "", row.1);
+/// Each formula has more variables than this.
+fn has_variables(alloc: Global, text: &str, least: u64) -> Result<(), Fail> {
+    for line in text.split('\n') {
+        is_large(alloc, line, least)?;
+    }
     Ok(())
 }
 
-fn is_verified(rt: &(impl Abort + AllocGlobal), row: &Row) -> Result<(), Fail> {
-    let told = run(rt.alloc(), row.0, row.1.as_bytes())?;
-    has_formulas(rt, &told, row);
-    are_right(rt, told.out.as_str(), row)
+/// So many proofs are told of, whose formulas are as large, with this status.
+fn has_formulas(alloc: Global, told: &Told, row: &Row) -> Result<(), Fail> {
+    compare_status(alloc, told, row.2, row.1)?;
+    compare_err(alloc, told, "", row.1)?;
+    has_proofs(alloc, told.out.as_str(), row.3)?;
+    has_variables(alloc, told.out.as_str(), row.4)
 }
 
-fn all_verified(rt: &(impl Abort + AllocGlobal), rows: &[Row]) -> Result<(), Fail> {
+/// So many proofs were read, and found right.
+fn are_found_right(alloc: Global, checked: &Told, row: &Row) -> Result<(), Fail> {
+    let line = numbered(alloc, "verified ", row.3 as u64, "\n")?;
+    compare(alloc, checked, 0, line.as_str(), "", row.1)
+}
+
+/// The program reads so many proofs in a text, and finds them right.
+fn are_right(alloc: Global, text: &str, row: &Row) -> Result<(), Fail> {
+    let checked = run(alloc, &["--ask", "check", "site.pp"], text.as_bytes())?;
+    are_found_right(alloc, &checked, row)
+}
+
+fn has_right_formulas(alloc: Global, told: &Told, row: &Row) -> Result<(), Fail> {
+    has_formulas(alloc, told, row)?;
+    are_right(alloc, told.out.as_str(), row)
+}
+
+fn is_verified(alloc: Global, row: &Row) -> Result<(), Fail> {
+    let told = run(alloc, row.0, row.1.as_bytes())?;
+    has_right_formulas(alloc, &told, row)
+}
+
+fn all_verified(alloc: Global, rows: &[Row]) -> Result<(), Fail> {
     for row in rows {
-        is_verified(rt, row)?;
+        is_verified(alloc, row)?;
     }
     Ok(())
 }
 
 #[test]
 fn proofs_that_are_read_back(rt: HostRuntime) -> Result<(), Fail> {
-    all_verified(&rt, &ROWS)
+    all_verified(rt.alloc(), &ROWS)
 }

@@ -1,11 +1,12 @@
 //! The arrows that manifests lack, and what becomes of the manifests with them.
 
-use crate::common::compare;
+use crate::common::{compare, holds};
 use crate::made_up;
 use crate::made_up::made_up;
 use crate::mending::{REPAIR, asked, is_mended, is_repaired};
-use std::process::Abort;
+use std::alloc::Global;
 use std::test::Fail;
+use test_rows::{number_text, same_number};
 
 /// Each package brings the unit of the service of its name; `it's\p` that of ntp too, and `pair` and `twin` one file with two contents.
 const LISTING: &str = concat!(
@@ -60,7 +61,7 @@ const ROWS: [Row; 9] = [
 ];
 
 /// A manifest, its listing, and how many arrows it lacks.
-type Lacking = (&'static str, &'static str, usize);
+type Lacking = (&'static str, &'static str, u64);
 
 /// Manifests that lack arrows, of which there is more than one choice or order, and how many are told.
 const OPEN: [Lacking; 5] = [
@@ -142,78 +143,107 @@ const EXAMPLES: [Lacking; 9] = [
     ),
 ];
 
-fn all_repaired(rt: &(impl Abort + AllocGlobal), rows: &[Row]) -> Result<(), Fail> {
+/// This is told of the repair of a manifest, and mends it.
+fn is_told(alloc: Global, manifest: &str, report: &str) -> Result<(), Fail> {
+    is_repaired(alloc, (manifest, LISTING), report)?;
+    is_mended(alloc, (manifest, LISTING))?;
+    Ok(())
+}
+
+fn all_repaired(alloc: Global, rows: &[Row]) -> Result<(), Fail> {
     for (manifest, report) in rows {
-        is_repaired(rt.alloc(), rt, (*manifest, LISTING), *report)?;
-        is_mended(rt.alloc(), rt, (*manifest, LISTING))?;
+        is_told(alloc, *manifest, *report)?;
     }
     Ok(())
 }
 
 #[test]
 fn arrows_that_are_missing(rt: HostRuntime) -> Result<(), Fail> {
-    all_repaired(&rt, &ROWS)
+    all_repaired(rt.alloc(), &ROWS)
 }
 
-fn all_mended(rt: &(impl Abort + AllocGlobal), rows: &[Lacking]) -> Result<(), Fail> {
-    for (manifest, listing, count) in rows {
-        let found = is_mended(rt.alloc(), rt, (*manifest, *listing))?;
-        assert_eq!(rt; found, *count, "{manifest}");
+/// A manifest lacks as many arrows as its row tells.
+fn lacks(alloc: Global, row: &Lacking) -> Result<(), Fail> {
+    let (manifest, listing, count) = *row;
+    same_number(
+        alloc,
+        manifest,
+        is_mended(alloc, (manifest, listing))?,
+        count,
+    )
+}
+
+fn all_mended(alloc: Global, rows: &[Lacking]) -> Result<(), Fail> {
+    for row in rows {
+        lacks(alloc, row)?;
     }
     Ok(())
 }
 
 #[test]
 fn arrows_of_more_than_one_choice(rt: HostRuntime) -> Result<(), Fail> {
-    all_mended(&rt, &OPEN)
+    all_mended(rt.alloc(), &OPEN)
 }
 
 #[test]
 fn arrows_of_examples(rt: HostRuntime) -> Result<(), Fail> {
-    all_mended(&rt, &EXAMPLES)
+    all_mended(rt.alloc(), &EXAMPLES)
 }
 
 /// How many arrows the manifest of a number lacks.
-fn lacking(rt: &(impl Abort + AllocGlobal), seed: u32) -> Result<usize, Fail> {
-    let manifest = made_up(rt.alloc(), seed)?;
-    is_mended(rt.alloc(), rt, (manifest.as_str(), made_up::LISTING))
+fn lacking(alloc: Global, seed: u32) -> Result<u64, Fail> {
+    let manifest = made_up(alloc, seed)?;
+    is_mended(alloc, (manifest.as_str(), made_up::LISTING))
 }
 
 /// How many arrows the manifests of these numbers lack together.
-fn all_lacking(rt: &(impl Abort + AllocGlobal), seeds: &[u32]) -> Result<usize, Fail> {
-    let mut all = 0usize;
+fn all_lacking(alloc: Global, seeds: &[u32]) -> Result<u64, Fail> {
+    let mut all = 0u64;
     for seed in seeds {
-        let count = lacking(rt, *seed)?;
+        let count = lacking(alloc, *seed)?;
         all = all.saturating_add(count);
     }
     Ok(all)
 }
 
-#[test]
-fn arrows_of_made_up_manifests(rt: HostRuntime) -> Result<(), Fail> {
-    // Numbers whose manifests are answered quickly.
-    let all = all_lacking(&rt, &[8, 9, 15, 17, 26, 31])?;
-    // Most of them lack some.
-    assert!(rt; all > 6, "{all}");
-    Ok(())
+/// The manifests of these numbers lack more arrows than this together.
+fn lack_more(alloc: Global, seeds: &[u32], least: u64) -> Result<(), Fail> {
+    let all = all_lacking(alloc, seeds)?;
+    let count = number_text(alloc, all)?;
+    holds(alloc, &[count.as_str()], all > least)
 }
 
-/// Each row: words, a manifest, the status, and what stands on out and err.
-fn all_told(
-    rt: &(impl Abort + AllocGlobal),
-    rows: &[(&[&str], &str, u8, &str, &str)],
-) -> Result<(), Fail> {
-    for (words, manifest, status, out, err) in rows {
-        let told = asked(rt.alloc(), *words, (*manifest, LISTING))?;
-        compare(rt, &told, *status, *out, *err, *manifest);
+#[test]
+fn arrows_of_made_up_manifests(rt: HostRuntime) -> Result<(), Fail> {
+    // Numbers whose manifests are answered quickly. Most of them lack some.
+    lack_more(rt.alloc(), &[8, 9, 15, 17, 26, 31], 6)
+}
+
+/// Words, a manifest, the status, and what stands on out and err.
+type Answered = (
+    &'static [&'static str],
+    &'static str,
+    u8,
+    &'static str,
+    &'static str,
+);
+
+fn is_answered(alloc: Global, row: &Answered) -> Result<(), Fail> {
+    let told = asked(alloc, row.0, (row.1, LISTING))?;
+    compare(alloc, &told, row.2, row.3, row.4, row.1)
+}
+
+fn all_answered(alloc: Global, rows: &[Answered]) -> Result<(), Fail> {
+    for row in rows {
+        is_answered(alloc, row)?;
     }
     Ok(())
 }
 
 #[test]
 fn repairs_that_are_not_made(rt: HostRuntime) -> Result<(), Fail> {
-    all_told(
-        &rt,
+    all_answered(
+        rt.alloc(),
         &[
             (
                 &[

@@ -1,10 +1,10 @@
 //! Manifests of which a second run changes something: what is told of them runs as it is told.
 
-use crate::common::{Told, run_over};
+use crate::common::{Told, compare_err, compare_status, holds, run_over};
 use crate::differences::{behind, replays};
 use std::alloc::Global;
-use std::process::Abort;
 use std::test::Fail;
+use test_rows::same;
 
 /// A manifest, the listing beside it, and the lines in front of the tree.
 type Row = (&'static str, &'static str, &'static str);
@@ -57,42 +57,45 @@ pub fn read_runs(lines: &str) -> Runs {
     }
 }
 
-/// Something is told on out alone, with the status of what a second run changes.
-fn is_told_to_change(rt: &impl Abort, told: &Told, manifest: &str) {
-    assert_eq!(rt; told.status, 2, "{manifest}");
-    assert_eq!(rt; told.err.len(), 0, "{manifest}");
-}
-
 /// The second outcome differs from the first, and a run that succeeds is told behind both.
-fn differ(rt: &impl Abort, runs: &Runs, manifest: &str) {
-    assert_eq!(rt; runs.rest, "succeeds from some tree\n", "{manifest}");
-    assert!(rt; runs.first != runs.second, "{manifest}");
+fn differ(alloc: Global, runs: &Runs, manifest: &str) -> Result<(), Fail> {
+    same(alloc, manifest, runs.rest, "succeeds from some tree\n")?;
+    holds(alloc, &[manifest], runs.first != runs.second)
 }
 
 /// Both outcomes are those of the order, the second from the first.
-fn both_replay(rt: &(impl Abort + AllocGlobal), row: &Row, runs: &Runs) -> Result<(), Fail> {
-    let alloc = rt.alloc();
-    replays(alloc, rt, row.0, row.1, runs.tree, runs.order, runs.first)?;
-    replays(alloc, rt, row.0, row.1, runs.first, runs.order, runs.second)
+fn both_replay(alloc: Global, row: &Row, runs: &Runs) -> Result<(), Fail> {
+    replays(alloc, (row.0, row.1), runs.tree, runs.order, runs.first)?;
+    replays(alloc, (row.0, row.1), runs.first, runs.order, runs.second)
 }
 
 /// The second outcome differs from the first, and both are those of the order.
-fn changes(rt: &(impl Abort + AllocGlobal), row: &Row) -> Result<(), Fail> {
-    let told = told_of(rt.alloc(), row)?;
-    is_told_to_change(rt, &told, row.0);
-    let runs = read_runs(told.out.as_str().strip_prefix(row.2).unwrap_or("?"));
-    differ(rt, &runs, row.0);
-    both_replay(rt, row, &runs)
+fn runs_differ(alloc: Global, row: &Row, runs: &Runs) -> Result<(), Fail> {
+    differ(alloc, runs, row.0)?;
+    both_replay(alloc, row, runs)
 }
 
-fn all_change(rt: &(impl Abort + AllocGlobal), rows: &[Row]) -> Result<(), Fail> {
+/// Runs that differ were told on out alone, with the status of what a second run changes.
+fn tells_runs(alloc: Global, row: &Row, told: &Told) -> Result<(), Fail> {
+    compare_status(alloc, told, 2, row.0)?;
+    compare_err(alloc, told, "", row.0)?;
+    let runs = read_runs(told.out.as_str().strip_prefix(row.2).unwrap_or("?"));
+    runs_differ(alloc, row, &runs)
+}
+
+fn changes(alloc: Global, row: &Row) -> Result<(), Fail> {
+    let told = told_of(alloc, row)?;
+    tells_runs(alloc, row, &told)
+}
+
+fn all_change(alloc: Global, rows: &[Row]) -> Result<(), Fail> {
     for row in rows {
-        changes(rt, row)?;
+        changes(alloc, row)?;
     }
     Ok(())
 }
 
 #[test]
 fn second_runs_that_change_something(rt: HostRuntime) -> Result<(), Fail> {
-    all_change(&rt, &ROWS)
+    all_change(rt.alloc(), &ROWS)
 }

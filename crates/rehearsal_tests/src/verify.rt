@@ -1,30 +1,26 @@
 //! Manifests that are judged, and manifests that are refused.
 
-use crate::common::{NONE, ONE, TWO, Told, compare, run, run_over};
+use crate::common::{NONE, ONE, TWO, Told, compare, compare_told, push_all, run, run_over};
 use crate::differences::USUAL;
 use std::alloc::Global;
-use std::process::Abort;
 use std::test::Fail;
+use test_rows::number_text;
 
-/// Compares what was told with a report, or with a refusal, whose status is 4 or 5.
-pub fn is_told(rt: &impl Abort, told: &Told, status: u8, text: &str, row: &str) {
-    if status == 4 || status == 5 {
-        compare(rt, told, status, "", text, row);
-    } else {
-        compare(rt, told, status, text, "", row);
-    }
+/// Words over a file `site.pp` of this text give so much, with this status.
+fn is_told(alloc: Global, words: &[&str], status: u8, text: &str, want: &str) -> Result<(), Fail> {
+    let told = run(alloc, words, text.as_bytes())?;
+    compare_told(alloc, &told, status, want, text)
 }
 
 /// Each row: the text of the file `site.pp`, and what the words give over it, with this status.
 pub fn all_told(
-    rt: &(impl Abort + AllocGlobal),
+    alloc: Global,
     words: &[&str],
     status: u8,
     rows: &[(&str, &str)],
 ) -> Result<(), Fail> {
     for (text, want) in rows {
-        let told = run(rt.alloc(), words, text.as_bytes())?;
-        is_told(rt, &told, status, *want, *text);
+        is_told(alloc, words, status, *text, *want)?;
     }
     Ok(())
 }
@@ -32,7 +28,7 @@ pub fn all_told(
 #[test]
 fn manifests_that_are_judged(rt: HostRuntime) -> Result<(), Fail> {
     all_told(
-        &rt,
+        rt.alloc(),
         &["site.pp"],
         0,
         &[
@@ -59,7 +55,7 @@ fn manifests_that_are_judged(rt: HostRuntime) -> Result<(), Fail> {
 #[test]
 fn orders_that_do_not_matter(rt: HostRuntime) -> Result<(), Fail> {
     all_told(
-        &rt,
+        rt.alloc(),
         &["site.pp"],
         0,
         &[
@@ -102,11 +98,16 @@ fn told_beside(alloc: Global, manifest: &str) -> Result<Told, Fail> {
     run_over(alloc, &["--packages", "listing", "site.pp"], &over)
 }
 
+/// This is told of a manifest beside that listing.
+fn is_judged(alloc: Global, manifest: &str, report: &str) -> Result<(), Fail> {
+    let told = told_beside(alloc, manifest)?;
+    compare(alloc, &told, 0, report, "", manifest)
+}
+
 /// Each row: a manifest beside that listing, and what is told of it.
-fn all_judged(rt: &(impl Abort + AllocGlobal), rows: &[(&str, &str)]) -> Result<(), Fail> {
+fn all_judged(alloc: Global, rows: &[(&str, &str)]) -> Result<(), Fail> {
     for (manifest, report) in rows {
-        let told = told_beside(rt.alloc(), *manifest)?;
-        compare(rt, &told, 0, *report, "", *manifest);
+        is_judged(alloc, *manifest, *report)?;
     }
     Ok(())
 }
@@ -115,7 +116,7 @@ fn all_judged(rt: &(impl Abort + AllocGlobal), rows: &[(&str, &str)]) -> Result<
 #[test]
 fn usual_hosts(rt: HostRuntime) -> Result<(), Fail> {
     all_judged(
-        &rt,
+        rt.alloc(),
         &[
             (
                 "package { ['a', 'b', 'c']: } file { '/etc/a.conf': content => 'a', require => Package['a'] } file { '/etc/b.conf': content => 'b', require => Package['b'] } file { '/etc/c.conf': content => 'c', require => Package['c'] }",
@@ -140,7 +141,7 @@ fn usual_hosts(rt: HostRuntime) -> Result<(), Fail> {
 #[test]
 fn graphs_that_always_fail(rt: HostRuntime) -> Result<(), Fail> {
     all_judged(
-        &rt,
+        rt.alloc(),
         &[
             (
                 "package { ['x', 'z']: } file { '/f': content => 'f' } file { '/f/g': content => 'g' }",
@@ -251,14 +252,19 @@ const REFUSED: [(&str, &str); 38] = [
 
 #[test]
 fn manifests_that_are_refused(rt: HostRuntime) -> Result<(), Fail> {
-    all_told(&rt, &["site.pp"], 4, &REFUSED)
+    all_told(rt.alloc(), &["site.pp"], 4, &REFUSED)
+}
+
+/// These bytes are refused with this line.
+fn is_refused(alloc: Global, bytes: &[u8], line: &str) -> Result<(), Fail> {
+    let told = run(alloc, &["site.pp"], bytes)?;
+    compare(alloc, &told, 4, "", line, line)
 }
 
 /// Each row: bytes, and the line of their refusal.
-fn all_refused(rt: &(impl Abort + AllocGlobal), rows: &[(&[u8], &str)]) -> Result<(), Fail> {
+fn all_refused(alloc: Global, rows: &[(&[u8], &str)]) -> Result<(), Fail> {
     for (bytes, line) in rows {
-        let told = run(rt.alloc(), &["site.pp"], *bytes)?;
-        compare(rt, &told, 4, "", *line, *line);
+        is_refused(alloc, *bytes, *line)?;
     }
     Ok(())
 }
@@ -266,7 +272,7 @@ fn all_refused(rt: &(impl Abort + AllocGlobal), rows: &[(&[u8], &str)]) -> Resul
 #[test]
 fn bytes_that_are_no_text(rt: HostRuntime) -> Result<(), Fail> {
     all_refused(
-        &rt,
+        rt.alloc(),
         &[
             (b"\xff", "refused 10 at 0: utf8\n"),
             (
@@ -277,12 +283,26 @@ fn bytes_that_are_no_text(rt: HostRuntime) -> Result<(), Fail> {
     )
 }
 
+/// Adds a file at the path of a number.
+fn push_file(alloc: Global, manifest: &mut String, number: u64) -> Result<(), Fail> {
+    let number = number_text(alloc, number)?;
+    push_all(
+        manifest,
+        &[
+            "file { '/f",
+            number.as_str(),
+            "': content => '",
+            number.as_str(),
+            "' }\n",
+        ],
+    )
+}
+
 /// So many files, each at a path of its own.
 fn files_apart(alloc: Global, count: u32) -> Result<String, Fail> {
     let mut manifest = String::new(alloc);
     for i in 1..=count {
-        let line = format!(in alloc; "file {{ '/f{i}': content => '{i}' }}\n")?;
-        manifest.push_str(line.as_str())?;
+        push_file(alloc, &mut manifest, i as u64)?;
     }
     Ok(manifest)
 }
@@ -293,14 +313,22 @@ fn told_of_files(alloc: Global, words: &[&str], count: u32) -> Result<Told, Fail
     run(alloc, words, manifest.as_bytes())
 }
 
-/// Each row: words, how many files there are, and the status and what is told of them.
-fn all_files(
-    rt: &(impl Abort + AllocGlobal),
-    rows: &[(&[&str], u32, u8, &str)],
+/// So many files are told of so.
+fn is_told_of_files(
+    alloc: Global,
+    words: &[&str],
+    count: u32,
+    status: u8,
+    want: &str,
 ) -> Result<(), Fail> {
+    let told = told_of_files(alloc, words, count)?;
+    compare_told(alloc, &told, status, want, "many files")
+}
+
+/// Each row: words, how many files there are, and the status and what is told of them.
+fn all_files(alloc: Global, rows: &[(&[&str], u32, u8, &str)]) -> Result<(), Fail> {
     for (words, count, status, want) in rows {
-        let told = told_of_files(rt.alloc(), *words, *count)?;
-        is_told(rt, &told, *status, *want, "many files");
+        is_told_of_files(alloc, *words, *count, *status, *want)?;
     }
     Ok(())
 }
@@ -308,7 +336,7 @@ fn all_files(
 #[test]
 fn many_files(rt: HostRuntime) -> Result<(), Fail> {
     all_files(
-        &rt,
+        rt.alloc(),
         &[
             (
                 &["site.pp"],
@@ -339,11 +367,15 @@ fn told_of_blanks(alloc: Global, count: usize) -> Result<Told, Fail> {
     run(alloc, &["site.pp"], &manifest)
 }
 
+fn is_told_of_blanks(alloc: Global, count: usize, status: u8, want: &str) -> Result<(), Fail> {
+    let told = told_of_blanks(alloc, count)?;
+    compare_told(alloc, &told, status, want, "blanks")
+}
+
 /// Each row: how many blanks there are, and the status and what is told of them.
-fn all_blanks(rt: &(impl Abort + AllocGlobal), rows: &[(usize, u8, &str)]) -> Result<(), Fail> {
+fn all_blanks(alloc: Global, rows: &[(usize, u8, &str)]) -> Result<(), Fail> {
     for (count, status, want) in rows {
-        let told = told_of_blanks(rt.alloc(), *count)?;
-        is_told(rt, &told, *status, *want, "blanks");
+        is_told_of_blanks(alloc, *count, *status, *want)?;
     }
     Ok(())
 }
@@ -351,7 +383,7 @@ fn all_blanks(rt: &(impl Abort + AllocGlobal), rows: &[(usize, u8, &str)]) -> Re
 #[test]
 fn a_manifest_at_its_limit(rt: HostRuntime) -> Result<(), Fail> {
     all_blanks(
-        &rt,
+        rt.alloc(),
         &[(262_144, 0, NONE), (262_145, 4, "refused 17 at 0: input\n")],
     )
 }

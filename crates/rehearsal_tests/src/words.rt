@@ -1,24 +1,34 @@
 //! Words that are taken and words that are refused.
 
-use crate::common::{NONE, run};
-use crate::verify::is_told;
-use std::process::Abort;
+use crate::common::{NONE, compare_told, run};
+use std::alloc::Global;
 use std::test::Fail;
 
 const USAGE: &str =
     "usage: rehearsal [--facts F] [--packages P] [--node N] [--conflicts C] [--ask A] [--tree T] [--order O] [--workload N] [--path P] [--content T] [--other M] [--data D] [--compiled C] [--assume S] [--given G] [--limits L] [INPUT]\n";
 
+/// Words over a file `site.pp` of these bytes give this status and text.
+fn is_told(
+    alloc: Global,
+    bytes: &[u8],
+    status: u8,
+    want: &str,
+    words: &[&str],
+) -> Result<(), Fail> {
+    let told = run(alloc, words, bytes)?;
+    compare_told(alloc, &told, status, want, "words")
+}
+
 /// Each row: words, which over a file `site.pp` of these bytes all give this status and text.
 fn all_told(
-    rt: &(impl Abort + AllocGlobal),
+    alloc: Global,
     bytes: &[u8],
     status: u8,
     want: &str,
     rows: &[&[&str]],
 ) -> Result<(), Fail> {
     for words in rows {
-        let told = run(rt.alloc(), *words, bytes)?;
-        is_told(rt, &told, status, want, "words");
+        is_told(alloc, bytes, status, want, *words)?;
     }
     Ok(())
 }
@@ -26,7 +36,7 @@ fn all_told(
 #[test]
 fn words_that_ask_to_verify(rt: HostRuntime) -> Result<(), Fail> {
     all_told(
-        &rt,
+        rt.alloc(),
         b"",
         0,
         NONE,
@@ -50,7 +60,7 @@ fn words_that_ask_to_verify(rt: HostRuntime) -> Result<(), Fail> {
 #[test]
 fn words_that_ask_about_a_catalog(rt: HostRuntime) -> Result<(), Fail> {
     all_told(
-        &rt,
+        rt.alloc(),
         br#"{"catalog_format":2,"resources":[],"edges":[]}"#,
         0,
         NONE,
@@ -172,5 +182,5 @@ const REFUSED: [&[&str]; 81] = [
 
 #[test]
 fn words_that_are_refused(rt: HostRuntime) -> Result<(), Fail> {
-    all_told(&rt, b"", 5, USAGE, &REFUSED)
+    all_told(rt.alloc(), b"", 5, USAGE, &REFUSED)
 }

@@ -1,31 +1,36 @@
 //! Workloads.
 
-use crate::common::{Told, run_over};
+use crate::common::{Told, compare_err, compare_status, holds, run_over};
 use std::alloc::Global;
-use std::process::Abort;
 use std::test::Fail;
+use test_rows::same;
 
 fn told_of(alloc: Global, words: &[&str]) -> Result<Told, Fail> {
     run_over(alloc, words, &[])
 }
 
-/// Behind these first lines is told that all is well.
-pub fn is_well(rt: &impl Abort, told: &Told, head: &str) {
+/// Behind these first lines was told that all is well.
+pub fn tells_well(alloc: Global, told: &Told, head: &str) -> Result<(), Fail> {
     let rest = told.out.as_str().strip_prefix(head).unwrap_or("?");
-    assert_eq!(rt;
+    same(
+        alloc,
+        head,
         rest,
         "deterministic\nidempotent\nsucceeds from some tree\n",
-        "{head}"
-    );
-    assert_eq!(rt; told.err.as_str(), "", "{head}");
-    assert_eq!(rt; told.status, 0, "{head}");
+    )?;
+    compare_err(alloc, told, "", head)?;
+    compare_status(alloc, told, 0, head)
+}
+
+fn is_well(alloc: Global, words: &[&str], head: &str) -> Result<(), Fail> {
+    let told = told_of(alloc, words)?;
+    tells_well(alloc, &told, head)
 }
 
 /// Each row: words, how many resources they give and how many of these are pruned, and all is well.
-fn all_well(rt: &(impl Abort + AllocGlobal), rows: &[(&[&str], &str)]) -> Result<(), Fail> {
+fn all_well(alloc: Global, rows: &[(&[&str], &str)]) -> Result<(), Fail> {
     for (words, head) in rows {
-        let told = told_of(rt.alloc(), *words)?;
-        is_well(rt, &told, *head);
+        is_well(alloc, *words, *head)?;
     }
     Ok(())
 }
@@ -33,7 +38,7 @@ fn all_well(rt: &(impl Abort + AllocGlobal), rows: &[(&[&str], &str)]) -> Result
 #[test]
 fn small_workloads(rt: HostRuntime) -> Result<(), Fail> {
     all_well(
-        &rt,
+        rt.alloc(),
         &[
             (&["--workload", "1"], "resources 7\npruned 3\n"),
             (&["--workload", "5"], "resources 19\npruned 15\n"),
@@ -52,7 +57,7 @@ fn small_workloads(rt: HostRuntime) -> Result<(), Fail> {
 #[test]
 fn a_workload_of_forty(rt: HostRuntime) -> Result<(), Fail> {
     all_well(
-        &rt,
+        rt.alloc(),
         &[(&["--workload", "40"], "resources 124\npruned 120\n")],
     )
 }
@@ -60,7 +65,7 @@ fn a_workload_of_forty(rt: HostRuntime) -> Result<(), Fail> {
 #[test]
 fn a_workload_of_forty_with_conflicts(rt: HostRuntime) -> Result<(), Fail> {
     all_well(
-        &rt,
+        rt.alloc(),
         &[(
             &["--conflicts", "1000000", "--workload", "40"],
             "resources 124\npruned 120\n",
@@ -71,7 +76,7 @@ fn a_workload_of_forty_with_conflicts(rt: HostRuntime) -> Result<(), Fail> {
 #[test]
 fn the_largest_workload(rt: HostRuntime) -> Result<(), Fail> {
     all_well(
-        &rt,
+        rt.alloc(),
         &[(&["--workload", "54"], "resources 166\npruned 162\n")],
     )
 }
@@ -79,7 +84,7 @@ fn the_largest_workload(rt: HostRuntime) -> Result<(), Fail> {
 #[test]
 fn the_largest_workload_with_conflicts(rt: HostRuntime) -> Result<(), Fail> {
     all_well(
-        &rt,
+        rt.alloc(),
         &[(
             &["--conflicts", "1000000", "--workload", "54"],
             "resources 166\npruned 162\n",
@@ -95,23 +100,28 @@ const AHEAD: [&str; 3] = [
 ];
 
 /// The conflicts are spent, and that is told, or they were enough.
-fn is_spent_or_well(rt: &impl Abort, status: u8, rest: &str) {
-    if status == 3 {
-        assert!(rt; AHEAD.contains(&rest), "{rest}");
-    } else {
-        assert_eq!(rt; status, 0);
-    }
+fn is_spent_or_well(alloc: Global, status: u8, rest: &str) -> Result<(), Fail> {
+    let is_spent = status == 3 && AHEAD.contains(&rest);
+    holds(alloc, &[rest], is_spent || status == 0)
+}
+
+/// Behind these first lines was told, on out alone, what a conflict was enough for.
+fn tells_spent(alloc: Global, told: &Told, head: &str) -> Result<(), Fail> {
+    let rest = told.out.as_str().strip_prefix(head).unwrap_or("?");
+    is_spent_or_well(alloc, told.status, rest)?;
+    compare_err(alloc, told, "", head)
+}
+
+fn is_spent(alloc: Global, words: &[&str], head: &str) -> Result<(), Fail> {
+    let told = told_of(alloc, words)?;
+    tells_spent(alloc, &told, head)
 }
 
 #[test]
 fn one_conflict(rt: HostRuntime) -> Result<(), Fail> {
-    let told = told_of(rt.alloc(), &["--workload", "5", "--conflicts", "1"])?;
-    let rest = told
-        .out
-        .as_str()
-        .strip_prefix("resources 19\npruned 15\n")
-        .unwrap_or("?");
-    is_spent_or_well(&rt, told.status, rest);
-    assert_eq!(rt; told.err.as_str(), "");
-    Ok(())
+    is_spent(
+        rt.alloc(),
+        &["--workload", "5", "--conflicts", "1"],
+        "resources 19\npruned 15\n",
+    )
 }
