@@ -8,14 +8,12 @@
 //! Each search has the whole budget; what is told to be spent is the last one, over a formula that states the question, and a
 //! pair that isn't refuted is only left open.
 
-ghost use Rattle.std.specs.Prelude.{◌≡◌, ◌≢◌, ◌+◌, ◌≤◌, [], map, IfSome, IfOk, IfErr};
+ghost use Rattle.std.specs.Prelude.{◌≡◌, ◌≢◌, ◌+◌, ◌≤◌, [], map, IfSome, IfOk};
 ghost use Rattle.fs_semantics.specs.Orders.{Told, IsDeterministic, IsExchange, IsCounterexample};
-ghost use Rattle.rh_base.specs.Refused.{IfRefused};
 ghost use Rattle.fs_lang.specs.Meaning.{program_of};
 ghost use Rattle.orders.specs.Relation.{comes, Comes};
 ghost use Rattle.plans.specs.Plans.{meant_by};
 ghost use Rattle.kept_graph.specs.Kept.{IsKept};
-ghost use Rattle.size_limits.specs.Limits.{HasFewPaths, IsLight, IsTooLarge};
 ghost use Rattle.determinism.specs.Questions.{IsKeptDeterministic};
 ghost use Rattle.determinism.specs.Answers.{IsJudged};
 
@@ -31,8 +29,7 @@ use kept_graph::{Completed, Kept, keep, kept_graphs, refute};
 use order_encode::Witness;
 use orders::Order;
 use plans::Plan;
-use rh_base::{Fault, NoMemory, Seq};
-use size_limits::check_size;
+use rh_base::{NoMemory, Seq};
 use std::alloc::Global;
 use tried_trees::Difference;
 
@@ -199,8 +196,11 @@ fn judge_pairs(alloc: Global, plan: &Plan<'_>, kept: &Kept, budget: u64) -> Resu
     }
 }
 
-/// Prunes, and judges what is kept, however large it is.
-pub fn judge_any(alloc: Global, plan: &Plan<'_>, budget: u64) -> Result<First, NoMemory>
+/// Whether the programs are deterministic, however large the graph is. Where pruning keeps some, each two of all whose order may matter
+/// are tried from a few trees, and asked about by themselves. Where that doesn't tell, the kept programs are asked about, and then all;
+/// each time it is first asked whether those commute of which neither comes before the other. Each formula has the whole budget; a
+/// budget of `u64::MAX` stands for none.
+pub fn judge_order(alloc: Global, plan: &Plan<'_>, budget: u64) -> Result<First, NoMemory>
     requires { 1 ≤ budget }
     ensures { IfOk result (IsJudged (meant_by plan.now) plan.now.order.now budget) }
 {
@@ -213,23 +213,4 @@ pub fn judge_any(alloc: Global, plan: &Plan<'_>, budget: u64) -> Result<First, N
         });
     }
     judge_pairs(alloc, plan, &kept, budget)
-}
-
-/// Whether the programs are deterministic. Where pruning keeps some, each two of all whose order may matter are tried from a few
-/// trees, and asked about by themselves. Where that doesn't tell, the kept programs are asked about, and then all; each time it is
-/// first asked whether those commute of which neither comes before the other. Each formula has the whole budget; a budget of
-/// `u64::MAX` stands for none.
-pub fn judge_order(alloc: Global, plan: &Plan<'_>, budget: u64) -> Result<First, Fault>
-    requires { 1 ≤ budget }
-    // It is refused exactly where the graph is too large to be asked about.
-    ensures paths { IfOk result (λ first. HasFewPaths (meant_by plan.now)) }
-    ensures weight { IfOk result (λ first. IsLight (meant_by plan.now)) }
-    ensures refused { IfErr result (λ e. IfRefused e (IsTooLarge (meant_by plan.now))) }
-    ensures only { HasFewPaths (meant_by plan.now) → IsLight (meant_by plan.now)
-        → IfErr result (λ e. IfRefused e (λ r. ⊥)) }
-    ensures judged { IfOk result (IsJudged (meant_by plan.now) plan.now.order.now budget) }
-{
-    check_size(alloc, plan.programs)?;
-    let first = judge_any(alloc, plan, budget)?;
-    Ok(first)
 }

@@ -16,4 +16,4 @@ mod whole;
 
 pub use first::{First, Sure};
 pub use joining::joined;
-pub use judging::{judge_any, judge_order};
+pub use judging::judge_order;

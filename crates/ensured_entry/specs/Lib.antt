@@ -1,4 +1,4 @@
 pub mod Questions
-pub mod Sizes
+pub mod Probed
 pub mod Tried
 pub mod Ensured

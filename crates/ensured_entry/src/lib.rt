@@ -9,6 +9,5 @@ mod probing;
 mod trying;
 
 pub use ensured::{Ensured, Late};
-pub use ensuring::{ensured_any, judge_entry};
+pub use ensuring::judge_entry;
 pub use probing::paths_with_probe;
-pub use wanted_entry::Wanted;

@@ -47,9 +47,9 @@ first_status (first.Spent k cnf log) = 3
 
 abbrev pub status_of : Ensured → ℕ
 status_of (ensured.First f) = first_status f
-status_of (ensured.Holds k s v end) = 0
-status_of (ensured.Fails k s w) = 9
-status_of (ensured.Spent k s a cnf log) = 3
+status_of (ensured.Holds s v end) = 0
+status_of (ensured.Fails s w) = 9
+status_of (ensured.Spent s a cnf log) = 3
 
 -- the lines where the graph isn't known to be deterministic
 abbrev pub first_lines : List (List ℕ) → List Program → List ℕ → ℕ → First → List ℕ
@@ -66,6 +66,6 @@ missed_of names es notes k (witness.Ends t order) = missed_text names es notes k
 -- its lines, where each question had so many conflicts
 abbrev pub lines_of : List (List ℕ) → List Program → List ℕ → ℕ → Ensured → List ℕ
 lines_of names es notes budget (ensured.First f) = first_lines names es notes budget f
-lines_of names es notes budget (ensured.Holds k s v end) = ensured_text (length es) notes k (last_line end)
-lines_of names es notes budget (ensured.Fails k s w) = missed_of names es notes k w
-lines_of names es notes budget (ensured.Spent k s a cnf log) = spent_late_text (length es) notes k a budget
+lines_of names es notes budget (ensured.Holds s v end) = ensured_text (length es) notes s.pruned (last_line end)
+lines_of names es notes budget (ensured.Fails s w) = missed_of names es notes s.pruned w
+lines_of names es notes budget (ensured.Spent s a cnf log) = spent_late_text (length es) notes s.pruned a budget

@@ -27,9 +27,9 @@ IsTellableFirst n (first.Spent k cnf log) = Unit {0}
 -- the same of an answer
 abbrev pub IsTellable : ℕ → Ensured → Type 0
 IsTellable n (ensured.First f) = IsTellableFirst n f
-IsTellable n (ensured.Holds k s v end) = Unit {0}
-IsTellable n (ensured.Fails k s w) = HasRun n w
-IsTellable n (ensured.Spent k s a cnf log) = Unit {0}
+IsTellable n (ensured.Holds s v end) = Unit {0}
+IsTellable n (ensured.Fails s w) = HasRun n w
+IsTellable n (ensured.Spent s a cnf log) = Unit {0}
 
 -- the report has the status of the answer, and its lines
 pub record IsReportOf (notes : List ℕ) (names : List (List ℕ)) (es : List Program) (budget : ℕ) (answered : Ensured)

@@ -88,21 +88,29 @@ fn lines_of(
 {
     match answered {
         Ensured::First(first) => first_lines(alloc, names, programs, notes, budget, first),
-        Ensured::Holds { pruned, ends, .. } => ensured_text(
+        Ensured::Holds { settled, ends, .. } => ensured_text(
             alloc,
             programs.len(),
             notes,
-            *pruned,
+            settled.pruned,
             ends,
         ),
-        Ensured::Fails {
-            pruned,
+        Ensured::Fails { settled, witness } => missed_text(
+            alloc,
+            names,
+            programs,
+            notes,
+            settled.pruned,
             witness,
-            ..
-        } => missed_text(alloc, names, programs, notes, *pruned, witness),
-        Ensured::Spent { pruned, asked, .. } => {
-            spent_late_text(alloc, programs.len(), notes, *pruned, asked, budget)
-        }
+        ),
+        Ensured::Spent { settled, asked, .. } => spent_late_text(
+            alloc,
+            programs.len(),
+            notes,
+            settled.pruned,
+            asked,
+            budget,
+        ),
     }
 }
 

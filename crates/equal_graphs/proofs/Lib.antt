@@ -2,4 +2,3 @@ pub mod JoinLaws
 pub mod RunLaws
 pub mod TryLaws
 pub mod PartLaws
-pub mod ComparedLaws

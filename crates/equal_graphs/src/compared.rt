@@ -1,16 +1,10 @@
 //! Answers to the question whether two graphs do the same.
 
 use cnf::{Cnf, Log};
-use determinism::{First, Sure};
+use determinism::First;
 use fs_lang::Tree;
 use proof_check::Verified;
-
-/// Why a graph is deterministic, and how many programs pruning doesn't keep.
-#[derive(Debug, Drop)]
-pub struct Settled {
-    pub pruned: u32,
-    pub sure: Sure,
-}
+use verdict::Settled;
 
 /// What is said of two graphs.
 #[derive(Debug, Drop)]

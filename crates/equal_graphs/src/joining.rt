@@ -1,21 +1,16 @@
-//! The domain of two lists of programs together, and their limits. That both are too large together is asked first, over the
-//! domain of both, and then of each by itself: a list's own domain is never wider, but the question of order of each asks.
+//! The domain of two lists of programs together.
 
-ghost use Rattle.std.specs.Prelude.{◌≡◌, ◌++◌, List, map, IfOk, IfErr, OnOk};
-ghost use Rattle.rh_base.specs.Refused.{IfRefused};
-ghost use Rattle.fs_semantics.specs.Programs.{Program as E};
+ghost use Rattle.std.specs.Prelude.{◌≡◌, ◌++◌, map, IfOk, OnOk};
 ghost use Rattle.fs_lang.specs.Meaning.{program_of, programs_in};
 ghost use Rattle.fs_interpreter.specs.Places.{CoversSteps};
 ghost use Rattle.finite_domain.specs.Layouts.{IsLayout};
 ghost use Rattle.path_domain.specs.Laid.{layout_of};
-ghost use Rattle.size_limits.specs.Limits.{HasPaths, HasFewPaths, IsLight};
-ghost use Rattle.equal_graphs.specs.Sizes.{IsTooWide, AreWithin, IsTooLargeTogether};
+ghost use Rattle.size_limits.specs.Paths.{HasPaths};
 
 use fs_lang::Program;
 use path_domain::{Domain, domain};
-use rh_base::limits::DOMAIN_PATHS;
-use rh_base::{Fault, NoMemory, Seq};
-use size_limits::{check_size, path_counts};
+use rh_base::{NoMemory, Seq};
+use size_limits::paths_of;
 use std::alloc::Global;
 
 /// Adds equal programs.
@@ -56,43 +51,10 @@ pub(crate) fn domain_of_both(
     domain(alloc, all.as_slice())
 }
 
-/// How many paths a domain has.
-fn path_count(domain: &Domain) -> u64
-    ensures { (es : List E) → IsLayout es (layout_of domain.now) → HasPaths es result }
-{
-    domain.table.path_count()
-}
-
 /// How many paths the domain of both has.
 pub fn paths_of_both(alloc: Global, left: &[Program], right: &[Program]) -> Result<u64, NoMemory>
     ensures { IfOk result (HasPaths (map program_of left.now ++ map program_of right.now)) }
 {
     let d = domain_of_both(alloc, left, right)?;
-    Ok(path_count(&d))
-}
-
-/// Refuses programs of which together the domain has too many paths.
-fn check_joined(alloc: Global, left: &[Program], right: &[Program]) -> Result<(), Fault>
-    ensures paths { IfOk result (λ u. HasFewPaths (map program_of left.now ++ map program_of right.now)) }
-    ensures refused { IfErr result (λ e. IfRefused e (IsTooWide (map program_of left.now) (map program_of right.now))) }
-    ensures only { HasFewPaths (map program_of left.now ++ map program_of right.now) → IfErr result (λ e. IfRefused e (λ r. ⊥)) }
-{
-    path_counts();
-    if paths_of_both(alloc, left, right)? > DOMAIN_PATHS {
-        return Err(Fault::refused(alloc, 70, 0, "domain"));
-    }
-    Ok(())
-}
-
-/// Refuses programs that are too large to be compared.
-#[tactic(auto, using(crate::proofs::JoinLaws::both_too_wide, crate::proofs::JoinLaws::left_too_large, crate::proofs::JoinLaws::right_too_large))]
-pub(crate) fn check_within(alloc: Global, left: &[Program], right: &[Program]) -> Result<(), Fault>
-    ensures within { IfOk result (λ u. AreWithin (map program_of left.now) (map program_of right.now)) }
-    ensures refused { IfErr result (λ e. IfRefused e (IsTooLargeTogether (map program_of left.now) (map program_of right.now))) }
-    ensures only { AreWithin (map program_of left.now) (map program_of right.now) → IfErr result (λ e. IfRefused e (λ r. ⊥)) }
-{
-    check_joined(alloc, left, right)?;
-    check_size(alloc, left)?;
-    check_size(alloc, right)?;
-    Ok(())
+    Ok(paths_of(&d))
 }

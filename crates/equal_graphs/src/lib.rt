@@ -12,6 +12,6 @@ mod joining;
 mod matching;
 mod trying;
 
-pub use compared::{Compared, Settled};
-pub use comparing::{compare, compare_any};
+pub use compared::Compared;
+pub use comparing::compare;
 pub use joining::paths_of_both;

@@ -1,6 +1,5 @@
 -- From the answer to what is told of it.
-use Rattle.std.proofs.Common.{◌≡◌, ◌⊎◌, inl, inr, ℕ, ◌<◌, ◌^◌, ◌-◌, List, [], ◌++◌, length, Option, Some, None, refl, subst, sym, ap, ◌∙◌}
-use Rattle.std.specs.List.{AllByRecursion}
+use Rattle.std.proofs.Common.{◌≡◌, ◌⊎◌, inl, inr, ℕ, List, ◌++◌, length, refl, subst, sym, ap, ◌∙◌}
 use Rattle.fs_semantics.specs.FileTree.{Path, Tree}
 use Rattle.fs_semantics.specs.Programs.{Program}
 use Rattle.fs_semantics.specs.Orders.{IsLinearExtension, outcome}
@@ -16,15 +15,14 @@ use Rattle.verdict.specs.declared.verdicts.Asked.TheVariants as asked
 use Rattle.verdict_report.specs.declared.report.Report.{Report}
 use Rattle.question_terms.specs.Terms.{budget_of}
 use Rattle.question_terms.specs.declared.terms.Terms.{Terms}
-use Rattle.given_verdict.specs.First.{IsSpentFrom}
+use Rattle.verdict.specs.declared.verdicts.Settled.{Settled}
+use Rattle.given_verdict.specs.Settled.{IsSettledFrom, IsUnsettledFrom}
 use Rattle.verdict_report.specs.Lines.{spent_text}
 use Rattle.entry_report.specs.Lines.{first_status, first_lines}
-use Rattle.entry_report.specs.Steps.{IsTellableFirst}
+use Rattle.entry_report.proofs.ToldLaws.{tellable_first, given_some, spent_on_order}
 use Rattle.equal_graphs.specs.Equal.{FirstsPart, EndApart}
-use Rattle.equal_graphs.specs.Compared.{IfLeft, IfRight}
 use Rattle.given_equal.specs.Sizes.{AreWithinWith}
-use Rattle.given_equal.specs.Answers.{IsSettledFrom, IsUnsettledFrom, IsSpentOnFrom, IsComparedFrom}
-use Rattle.equal_graphs.specs.declared.compared.Settled.{Settled}
+use Rattle.given_equal.specs.Answers.{IsSpentOnFrom, IsComparedFrom}
 use Rattle.equal_graphs.specs.declared.compared.Compared.{Compared}
 use Rattle.equal_graphs.specs.declared.compared.Compared.TheVariants as compared
 use Rattle.equal_report.specs.Lines.{settled_lines, spent_equal_text}
@@ -33,34 +31,16 @@ use Rattle.equal_report.specs.Told.{IsSettledWith, TellsDifference, TellsUnanswe
 
 -- ---- what the lines need
 
--- the numbers of an order of so many programs are below their count
-pub below : (n m : ℕ) (order : List ℕ) → n ≡ m → AllByRecursion (λ k. k < m) order → AllByRecursion (λ k. k < n) order
-below n m order e all = subst (λ c. AllByRecursion (λ k. k < c) order) (sym e) all
-
--- an answer about one graph speaks of its programs
-tellable_first : (given : List Path) (n : ℕ) (es : List Program) (order : Relation) (budget : ℕ) → n ≡ length es → (f : First) → IsUnsettledFrom given es order budget f → IsTellableFirst n f
-tellable_first given n es order budget same (first.Sure k s) is = is.unsure
-tellable_first given n es order budget same (first.Differs k (witness.Orders t left right)) is =
-    (below n (length es) left same is.differs.0.shows.left_allowed.below, below n (length es) right same is.differs.0.shows.right_allowed.below)
-tellable_first given n es order budget same (first.Differs k (witness.Twice t turns)) is = is.differs
-tellable_first given n es order budget same (first.Differs k (witness.Ends t turns)) is = is.differs
-tellable_first given n es order budget same (first.Spent k cnf log) is = tt
-
 -- an answer about two graphs speaks of the programs of the one that it is about
 pub tellable : (given : List Path) (n m : ℕ) (es : List Program) (order : Relation) (fs : List Program) (other : Relation) (budget : ℕ) → n ≡ length es → m ≡ length fs
-    → (c : Compared) → IfLeft c (IsUnsettledFrom given es order budget) → IfRight c (IsUnsettledFrom given fs other budget) → IsTellable n m c
-tellable given n m es order fs other budget left right (compared.Left f) is more = tellable_first given n es order budget left f is
-tellable given n m es order fs other budget left right (compared.Right l f) is more = tellable_first given m fs other budget right f more
-tellable given n m es order fs other budget left right (compared.Equal l r v) is more = tt
-tellable given n m es order fs other budget left right (compared.Differ l r t) is more = tt
-tellable given n m es order fs other budget left right (compared.Spent l r cnf log) is more = tt
+    → (c : Compared) → IsComparedFrom given es order fs other budget c → IsTellable n m c
+tellable given n m es order fs other budget left right (compared.Left f) is = tellable_first given n es order budget left f is
+tellable given n m es order fs other budget left right (compared.Right l f) is = tellable_first given m fs other budget right f is.1
+tellable given n m es order fs other budget left right (compared.Equal l r v) is = tt
+tellable given n m es order fs other budget left right (compared.Differ l r t) is = tt
+tellable given n m es order fs other budget left right (compared.Spent l r cnf log) is = tt
 
 -- ---- what is told
-
--- conflicts that are spent are given
-given_some : (given : Option ℕ) → (budget_of given ≡ 2 ^ 64 - 1 → ⊥) → (c : ℕ) × (given ≡ Some c)
-given_some None limited = absurd (limited refl)
-given_some (Some c) limited = (c, refl)
 
 -- the first extension is an allowed order
 allowed : (es : List Program) (order : Relation) (o : List ℕ) → length es ≡ order.count → IsFirstExtension order o → IsLinearExtension (length es) (Comes order) o
@@ -84,38 +64,19 @@ module _ (terms : Terms) (budget : ℕ) (same : budget ≡ budget_of terms.confl
   -- where the budget was spent on the order of one graph the report tells so
   tells_unanswered : (notes : List ℕ) (es : List Program) (order : Relation) (k : ℕ) (cnf : Formula) (log : Log) → IsUnsettledFrom terms.given es order budget (first.Spent k cnf log) → (report : Report) → report.status ≡ 3
       → report.text ≡ spent_text (length es) notes k asked.Deterministic budget → TellsUnanswered terms notes es order report
-  tells_unanswered notes es order k cnf log is report status text =
-      let used : IsSpentFrom terms.given es order (budget_of terms.conflicts) cnf log.steps = subst (λ b. IsSpentFrom terms.given es order b cnf log.steps) same is.spent in
-      let some = given_some terms.conflicts used.limited in
-      record {
-        pruned = k;
-        count = is.pruned;
-        unanswered = record {
-          status = status;
-          conflicts = some.0;
-          limited = some.1;
-          asked = asked.Deterministic;
-          formula = cnf;
-          steps = log.steps;
-          spent = used;
-          known = tt;
-          proofs = [];
-          refuted = refl;
-          text = subst (λ b. report.text ≡ spent_text (length es) notes k asked.Deterministic b) same text;
-        };
-      }
+  tells_unanswered notes es order k cnf log is report status text = record { pruned = k; count = is.0; unanswered = spent_on_order terms budget same notes es order k cnf log is.1 report status text }
 
   -- what is told of one graph that isn't known to be deterministic
   unsettled : (notes : List ℕ) (names : List (List ℕ)) (es : List Program) (order : Relation) (f : First) → IsUnsettledFrom terms.given es order budget f → (report : Report) → report.status ≡ first_status f
       → report.text ≡ first_lines names es notes budget f → TellsDifference terms notes names es order report ⊎ TellsUnanswered terms notes es order report
-  unsettled notes names es order (first.Sure k s) is report status text = absurd is.unsure
+  unsettled notes names es order (first.Sure k s) is report status text = absurd is
   unsettled notes names es order (first.Differs k (witness.Orders t left right)) is report status text = inl (record {
     pruned = k;
-    count = is.pruned;
-    different = record { status = status; tree = t; left = left; right = right; counterexample = is.differs.0; exchange = is.differs.1; text = text };
+    count = is.0;
+    different = record { status = status; tree = t; left = left; right = right; counterexample = is.1.0; exchange = is.1.1; text = text };
   })
-  unsettled notes names es order (first.Differs k (witness.Twice t turns)) is report status text = absurd is.differs
-  unsettled notes names es order (first.Differs k (witness.Ends t turns)) is report status text = absurd is.differs
+  unsettled notes names es order (first.Differs k (witness.Twice t turns)) is report status text = absurd is.1
+  unsettled notes names es order (first.Differs k (witness.Ends t turns)) is report status text = absurd is.1
   unsettled notes names es order (first.Spent k cnf log) is report status text = inr (tells_unanswered notes es order k cnf log is report status text)
 
   module _ (long : Long) (notes other_notes : List ℕ) (names : List (List ℕ)) (es : List Program) (order : Relation) (others : List (List ℕ)) (fs : List Program) (other : Relation) (left_long : length es ≡ order.count) (right_long : length fs ≡ other.count)
@@ -154,32 +115,32 @@ module _ (terms : Terms) (budget : ℕ) (same : budget ≡ budget_of terms.confl
 
     -- whatever the answer is, the report is one of what may be told
     tells : (c : Compared) → IsComparedFrom terms.given es order fs other budget c → IsReportOf notes other_notes names es order others fs other budget c report → Tells terms notes other_notes names es order others fs other report
-    tells (compared.Left f) said is = tells_left (unsettled notes names es order f said.left report is.status is.text)
+    tells (compared.Left f) said is = tells_left (unsettled notes names es order f said report is.status is.text)
     tells (compared.Right l f) said is =
-        tells_right l (first_lines others fs other_notes budget f) said.left_settled is.text (unsettled other_notes others fs other f said.right (record { status = report.status; text = first_lines others fs other_notes budget f }) is.status refl)
+        tells_right l (first_lines others fs other_notes budget f) said.0 is.text (unsettled other_notes others fs other f said.1 (record { status = report.status; text = first_lines others fs other_notes budget f }) is.status refl)
     tells (compared.Equal l r v) said is = equal (record {
       status = is.status;
       left = l.pruned;
-      left_settled = settled_with terms.given es order l said.left_settled;
+      left_settled = settled_with terms.given es order l said.0;
       right = r.pruned;
-      right_settled = settled_with terms.given fs other r said.right_settled;
-      equal = said.equal;
+      right_settled = settled_with terms.given fs other r said.1;
+      equal = said.2;
       text = is.text;
     })
     tells (compared.Differ l r t) said is = unequal (record {
       status = is.status;
       left = l.pruned;
-      left_settled = settled_with terms.given es order l said.left_settled;
+      left_settled = settled_with terms.given es order l said.0;
       right = r.pruned;
-      right_settled = settled_with terms.given fs other r said.right_settled;
+      right_settled = settled_with terms.given fs other r said.1;
       tree = t;
       turns = is.first;
       other_turns = is.second;
-      stand = said.differ.stand;
-      apart = apart long es order fs other t left_long right_long is.first is.second is.is_first is.is_second said.differ.shows;
+      stand = said.2.stand;
+      apart = apart long es order fs other t left_long right_long is.first is.second is.is_first is.is_second said.2.shows;
       text = is.text;
     })
-    tells (compared.Spent l r cnf log) said is = spent (tells_spent l r cnf log said.left_settled said.right_settled said.spent is.status is.text)
+    tells (compared.Spent l r cnf log) said is = spent (tells_spent l r cnf log said.0 said.1 said.2 is.status is.text)
 
     -- and of graphs within the limits, what it tells holds
     pub told_is : AreWithinWith terms.limits terms.given es fs → (c : Compared) → IsComparedFrom terms.given es order fs other budget c → IsReportOf notes other_notes names es order others fs other budget c report

@@ -11,7 +11,7 @@ ghost use Rattle.given_entry.specs.Answers.{IsEnsuredFrom};
 use crate::limits::check_size_probed;
 use crate::without::ensured_without;
 use commute_prune::pruning;
-use ensured_entry::{Ensured, ensured_any};
+use ensured_entry::{Ensured, judge_entry};
 use fs_lang::Path;
 use guarded_graph::{guard_is_pruned, with_guard};
 use order_extensions::has_first_extension;
@@ -43,7 +43,7 @@ fn guarded_entry(
         programs: graph.programs.as_slice(),
         order: &graph.order,
     };
-    let answered = ensured_any(alloc, &asked, wanted, budget)?;
+    let answered = judge_entry(alloc, &asked, wanted, budget)?;
     ensured_without(alloc, plan.order, answered)
 }
 
@@ -59,7 +59,7 @@ fn entry_from(
     ensures { IfOk result (IsEnsuredFrom given.now (meant_by plan.now) plan.now.order.now wanted.now budget) }
 {
     if given.is_empty() {
-        return ensured_any(alloc, plan, wanted, budget);
+        return judge_entry(alloc, plan, wanted, budget);
     }
     guarded_entry(alloc, plan, given, wanted, budget)
 }

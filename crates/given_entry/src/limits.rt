@@ -3,7 +3,7 @@
 ghost use Rattle.std.specs.Prelude.{map, IfOk, IfErr};
 ghost use Rattle.rh_base.specs.Refused.{IfRefused};
 ghost use Rattle.fs_lang.specs.Meaning.{program_of};
-ghost use Rattle.size_limits.specs.Limits.{HasPaths};
+ghost use Rattle.size_limits.specs.Paths.{HasPaths};
 ghost use Rattle.given_verdict.specs.Limits.{HasFewPathsWith, IsLightWith};
 ghost use Rattle.given_entry.specs.Sizes.{probed, HasFewPathsProbed, IsTooWideProbed, IsTooLargeProbed};
 

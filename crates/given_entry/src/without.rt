@@ -1,14 +1,10 @@
 //! An answer about the graph with the guard, as one about the graph.
 
 ghost use Rattle.std.specs.Prelude.{IfOk};
-ghost use Rattle.determinism.specs.First.{IfDiffers};
-ghost use Rattle.determinism.specs.Answers.{HasTwoOrders};
-ghost use Rattle.ensured_entry.specs.Ensured.{IfFirst, IfFails, IfFrom};
-ghost use Rattle.given_verdict.specs.Ends.{HasOneOrder};
-ghost use Rattle.given_entry.specs.Answers.{IfRun, AreEndsOf, IsEnsuredWithout};
+ghost use Rattle.given_entry.specs.Answers.{EndInOneOrder, HasOrders, AreEndsOf, IsEnsuredWithout};
 
 use ensured_entry::Ensured;
-use given_verdict::{answer_without, run_of};
+use given_verdict::{answer_without, run_of, settled_without};
 use orders::Order;
 use rh_base::NoMemory;
 use std::alloc::Global;
@@ -16,7 +12,7 @@ use verdict::Ends;
 
 /// Whether the graph succeeds, with its first extension.
 fn ends_of(alloc: Global, order: &Order, end: Ends) -> Result<Ends, NoMemory>
-    requires { IfRun end HasOneOrder }
+    requires { EndInOneOrder end }
     ensures { IfOk result (AreEndsOf order.now end) }
 {
     match end {
@@ -31,48 +27,37 @@ pub(crate) fn ensured_without(
     order: &Order,
     answered: Ensured,
 ) -> Result<Ensured, NoMemory>
-    requires first { IfFirst answered (λ f. IfDiffers f HasTwoOrders) }
-    requires from { IfFrom answered HasOneOrder }
-    requires fails { IfFails answered HasOneOrder }
+    requires { HasOrders answered }
     ensures { IfOk result (IsEnsuredWithout order.now answered) }
 {
     match answered {
         Ensured::First(first) => Ok(Ensured::First(answer_without(alloc, first)?)),
         Ensured::Holds {
-            pruned,
-            sure,
+            settled,
             proof,
             ends,
         } => {
             let ends = ends_of(alloc, order, ends)?;
             Ok(Ensured::Holds {
-                pruned: pruned.saturating_sub(1),
-                sure,
+                settled: settled_without(settled),
                 proof,
                 ends,
             })
         }
-        Ensured::Fails {
-            pruned,
-            sure,
-            witness,
-        } => {
+        Ensured::Fails { settled, witness } => {
             let witness = run_of(alloc, order, &witness)?;
             Ok(Ensured::Fails {
-                pruned: pruned.saturating_sub(1),
-                sure,
+                settled: settled_without(settled),
                 witness,
             })
         }
         Ensured::Spent {
-            pruned,
-            sure,
+            settled,
             asked,
             cnf,
             log,
         } => Ok(Ensured::Spent {
-            pruned: pruned.saturating_sub(1),
-            sure,
+            settled: settled_without(settled),
             asked,
             cnf,
             log,

@@ -6,7 +6,7 @@ use Rattle.fs_semantics.specs.FileTree.{Path}
 use Rattle.fs_semantics.specs.Programs.{Program}
 use Rattle.host_limits.specs.Limits.{domain_limit}
 use Rattle.host_limits.specs.declared.limits.Limits.{Limits}
-use Rattle.size_limits.specs.Limits.{HasPaths}
+use Rattle.size_limits.specs.Paths.{HasPaths}
 use Rattle.given_verdict.specs.Graphs.{asked_programs}
 use Rattle.given_verdict.specs.Limits.{HasFewPathsWith, IsLightWith, IsTooLargeWith}
 

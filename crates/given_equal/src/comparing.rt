@@ -10,7 +10,7 @@ ghost use Rattle.given_equal.specs.Answers.{IsComparedFrom};
 use crate::limits::check_within;
 use crate::without::compared_without;
 use commute_prune::pruning;
-use equal_graphs::{Compared, compare_any};
+use equal_graphs::{Compared, compare};
 use fs_lang::Path;
 use guarded_graph::{guard_is_pruned, with_guard};
 use order_extensions::has_first_extension;
@@ -49,7 +49,7 @@ fn guarded_compare(
         programs: second.programs.as_slice(),
         order: &second.order,
     };
-    let answered = compare_any(alloc, &first, &other, budget)?;
+    let answered = compare(alloc, &first, &other, budget)?;
     compared_without(alloc, answered)
 }
 
@@ -66,7 +66,7 @@ fn compared_from(
         (IsComparedFrom given.now (meant_by left.now) left.now.order.now (meant_by right.now) right.now.order.now budget) }
 {
     if given.is_empty() {
-        return compare_any(alloc, left, right, budget);
+        return compare(alloc, left, right, budget);
     }
     guarded_compare(alloc, left, right, given, budget)
 }

@@ -3,7 +3,7 @@
 ghost use Rattle.std.specs.Prelude.{map, IfOk, IfErr};
 ghost use Rattle.rh_base.specs.Refused.{IfRefused};
 ghost use Rattle.fs_lang.specs.Meaning.{program_of};
-ghost use Rattle.size_limits.specs.Limits.{HasPaths};
+ghost use Rattle.size_limits.specs.Paths.{HasPaths};
 ghost use Rattle.given_equal.specs.Sizes.{joined, HasFewPathsJoined, IsTooWideJoined, AreWithinWith, IsTooLargeJoined};
 
 use equal_graphs::paths_of_both;

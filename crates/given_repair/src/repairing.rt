@@ -8,12 +8,11 @@ ghost use Rattle.given_verdict.specs.Limits.{HasFewPathsWith, IsLightWith, IsToo
 ghost use Rattle.given_repair.specs.Repairs.{IsRepairedFrom};
 
 use fs_lang::Path;
-use given_hosts::none_given;
 use given_verdict::check_size_with;
 use guarded_graph::with_guard;
 use plans::Plan;
 use question_terms::Terms;
-use repair::{Repaired, arrows, repair_any};
+use repair::{Repaired, arrows, repair};
 use rh_base::{Fault, NoMemory};
 use std::alloc::Global;
 
@@ -37,7 +36,7 @@ fn repaired_behind(
         programs: graph.programs.as_slice(),
         order: &graph.order,
     };
-    let repaired = repair_any(alloc, &asked, budget)?;
+    let repaired = repair(alloc, &asked, budget)?;
     Ok(repaired)
 }
 
@@ -52,7 +51,7 @@ fn repaired_from(
     ensures { IfOk result (IsRepairedFrom given.now (meant_by plan.now) plan.now.order.now budget) }
 {
     if given.is_empty() {
-        let repaired = repair_any(alloc, plan, budget)?;
+        let repaired = repair(alloc, plan, budget)?;
         return Ok(repaired);
     }
     repaired_behind(alloc, plan, given, budget)

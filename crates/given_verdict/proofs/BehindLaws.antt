@@ -1,5 +1,5 @@
 -- What stands behind a first run: all orders end alike there, or one of two shows a second run that changes something.
-use Rattle.std.proofs.Common.{◌≡◌, ◌≢◌, ◌⊎◌, inl, inr, ℕ, Bool, true, false, ◌+◌, ◌<◌, List, [], ◌∷◌, ◌++◌, length, length-append, map, drop, get_or, Some, None, refl, sym, ap, ap₂, subst, ◌∙◌}
+use Rattle.std.proofs.Common.{◌≡◌, ◌≢◌, ◌⊎◌, inl, inr, ℕ, Bool, true, false, ◌+◌, ◌<◌, List, [], ◌∷◌, ◌++◌, length, length-append, map, drop, get_or, Some, None, refl, sym, ap, subst, ◌∙◌}
 use Rattle.std.specs.List.{AllByRecursion}
 use Rattle.fs_semantics.specs.FileTree.{Path, Tree}
 use Rattle.fs_semantics.specs.Programs.{Program, Programs, Id, Steps, none, next, Outcome, and_then}
@@ -18,7 +18,7 @@ use Rattle.proof_check.specs.Refuted.{HasNoModel}
 use Rattle.order_encode.specs.Witnesses.{IsFirstExtension}
 use Rattle.order_encode.specs.declared.witness.Witness.{Witness}
 use Rattle.order_encode.specs.declared.witness.Witness.TheVariants as witness
-use Rattle.given_verdict.specs.Second.{NeverChangedFrom, IsSecondChangeFrom, IsSecondProofFrom, IsSecondRunFrom}
+use Rattle.given_verdict.specs.Second.{NeverChangedFrom, IsSecondChangeFrom, IsSecondProofFrom, IsChangeFrom}
 use Rattle.given_verdict.specs.Behind.{IsDifferenceBehind, EndsDifferently, IsDifferentOf}
 
 -- ---- a first run as one program
@@ -100,18 +100,18 @@ module _ (given : List Path) (es : List Program) (order : Relation) (long : leng
       let d = differs_changed es o t differ in
       record { stand = c.stand; shows = record { is_tree = c.shows.is_tree; allowed = l; after = d.0; ends = d.1; changes = d.2 } }
 
-  -- where one of two orders shows a second run that changes something, so does the witness chosen of them
-  one_of : (t : Tree) (o p : List ℕ) → IsLinearExtension (length es) (Told (comes order)) o → (w : Witness) → IsDifferentOf es t o p w
-      → IsSecondRunCounterexampleFrom given es (Told (comes order)) t o ⊎ IsSecondRunCounterexampleFrom given es (Told (comes order)) t p → IsSecondRunFrom given es order w
-  one_of t o p l w (inl d) (inl c) = subst (IsSecondRunFrom given es order) (sym d.1) (shows t o o l d.0 c)
-  one_of t o p l w (inl d) (inr c) = subst (IsSecondRunFrom given es order) (sym d.1) (shows t o p l d.0 c)
-  one_of t o p l w (inr d) (inl c) = absurd (d.0 (changed_differs es o t c.shows.after c.shows.ends c.shows.changes))
-  one_of t o p l w (inr d) (inr c) = subst (IsSecondRunFrom given es order) (sym d.1) c
+  -- where folders are given and one of two orders shows a second run that changes something, so does the witness chosen of them
+  one_of : given ≢ [] → (t : Tree) (o p : List ℕ) → IsLinearExtension (length es) (Told (comes order)) o → (w : Witness) → IsDifferentOf es t o p w
+      → IsSecondRunCounterexampleFrom given es (Told (comes order)) t o ⊎ IsSecondRunCounterexampleFrom given es (Told (comes order)) t p → IsChangeFrom given es order w
+  one_of some t o p l w (inl d) (inl c) = subst (IsChangeFrom given es order) (sym d.1) (shows t o o l d.0 c, λ none. absurd (some none))
+  one_of some t o p l w (inl d) (inr c) = subst (IsChangeFrom given es order) (sym d.1) (shows t o p l d.0 c, λ none. absurd (some none))
+  one_of some t o p l w (inr d) (inl c) = absurd (d.0 (changed_differs es o t c.shows.after c.shows.ends c.shows.changes))
+  one_of some t o p l w (inr d) (inr c) = subst (IsChangeFrom given es order) (sym d.1) (c, λ none. absurd (some none))
 
   -- two orders that end differently behind a first run make a witness of a second run that changes something
-  pub changes : (tree : Tree) (left right : List ℕ) → IsDifferenceBehind given es order (witness.Orders tree left right) → (w : Witness)
-      → IsDifferentOf es tree (drop 1 left) (drop 1 right) w → IsSecondRunFrom given es order w
-  changes tree left right h w is =
+  pub changes : given ≢ [] → (tree : Tree) (left right : List ℕ) → IsDifferenceBehind given es order (witness.Orders tree left right) → (w : Witness)
+      → IsDifferentOf es tree (drop 1 left) (drop 1 right) w → IsChangeFrom given es order w
+  changes some tree left right h w is =
       let c = h.differs.0 in
       let l = front h.first left c.left_allowed in
       let r = front h.first right c.right_allowed in
@@ -119,7 +119,7 @@ module _ (given : List Path) (es : List Program) (order : Relation) (long : leng
       (subst (λ q. IsCounterexample (after_first given es h.first) (Told (guard_before order.count (comes order))) tree q right) l.1 c) in
       let told = one_changes given es (comes order) sure h.first (allowed h.first h.is_first) (guard_before order.count (comes order)) goes tree l.0 r.0 both in
       let same = subst (λ q. IsDifferentOf es tree l.0 q w) (ap (drop 1) r.1) (subst (λ q. IsDifferentOf es tree q (drop 1 right) w) (ap (drop 1) l.1) is) in
-      one_of tree l.0 r.0 l.2 w same told
+      one_of some tree l.0 r.0 l.2 w same told
 
   -- where all orders end alike behind the first run, and a second run in it changes nothing, none does
   pub idempotent : (first : List ℕ) → IsFirstExtension order first → IsDeterministic (after_first given es first) (Told (guard_before order.count (comes order)))
@@ -141,8 +141,8 @@ stated_by_any given es order f same no_model = record {
   no_model = no_model;
 }
 
--- a second run in the first extension that changes something is one in an allowed order
-pub change_of_first : (given : List Path) (es : List Program) (order : Relation) (w : Witness) → IsSecondChangeFrom given es order w → IsSecondRunFrom given es order w
+-- a second run in the first extension that changes something is one in an allowed order, and in the first extension
+pub change_of_first : (given : List Path) (es : List Program) (order : Relation) (w : Witness) → IsSecondChangeFrom given es order w → IsChangeFrom given es order w
 change_of_first given es order (witness.Orders tree left right) h = h
-change_of_first given es order (witness.Twice tree o) h = h.shows
+change_of_first given es order (witness.Twice tree o) h = (h.shows, λ none. h.is_first)
 change_of_first given es order (witness.Ends tree o) h = h

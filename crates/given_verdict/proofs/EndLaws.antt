@@ -4,19 +4,18 @@ use Rattle.std.specs.Prelude.{◌↔◌, IsSome, is_some}
 use Rattle.fs_semantics.specs.FileTree.{Path, Tree, IsTree}
 use Rattle.fs_semantics.specs.Programs.{Program, Outcome}
 use Rattle.fs_semantics.specs.Orders.{Told, IsLinearExtension, outcome}
-use Rattle.path_domain.specs.declared.listed.Domain.{Domain}
 use Rattle.path_domain.specs.Laid.{layout_of}
 use Rattle.given_hosts.specs.Given.{IsDeterministicFrom, SucceedsFrom}
 use Rattle.given_hosts.specs.Guard.{guarded, guard_before, GoesFirst}
 use Rattle.given_hosts.proofs.GuardLaws.{goes_first, ends_where_stand}
 use Rattle.given_hosts.proofs.GraphLaws.{order_behind, ended}
-use Rattle.orders.specs.Relation.{Relation, comes, Comes}
+use Rattle.orders.specs.Relation.{Relation, comes}
 use Rattle.cnf.specs.Formulas.{Formula}
 use Rattle.order_encode.specs.Witnesses.{IsFirstExtension}
 use Rattle.order_encode.specs.declared.witness.Witness.{Witness}
 use Rattle.order_encode.specs.declared.witness.Witness.TheVariants as witness
 use Rattle.success.specs.Questions.{StatesEnd, IsEnd}
-use Rattle.given_verdict.specs.Second.{IsSecondRunFrom}
+use Rattle.given_verdict.specs.Second.{IsChangeFrom}
 use Rattle.given_verdict.specs.Ends.{IsRunFrom, StatesEndFrom, IsEndFrom, IsRunOf, HasOneOrder}
 use Rattle.given_verdict.proofs.AskedLaws.{layout_of_guarded}
 
@@ -32,7 +31,7 @@ one_order es order (witness.Twice tree o) h = tt
 one_order es order (witness.Ends tree o) h = tt
 
 -- and so has a witness of a second run that changes something
-pub one_order_of_change : (given : List Path) (es : List Program) (order : Relation) (w : Witness) → IsSecondRunFrom given es order w → HasOneOrder w
+pub one_order_of_change : (given : List Path) (es : List Program) (order : Relation) (w : Witness) → IsChangeFrom given es order w → HasOneOrder w
 one_order_of_change given es order (witness.Orders tree left right) h = h
 one_order_of_change given es order (witness.Twice tree o) h = tt
 one_order_of_change given es order (witness.Ends tree o) h = tt
@@ -49,14 +48,14 @@ module _ (given : List Path) (es : List Program) (order : Relation) (long : leng
   succeeds (witness.Ends tree first) h = record { tree = tree; is_tree = h.is_tree; order = first; allowed = allowed first h.is_first; ends = h.ends }
 
   -- the first of two runs ends in a tree, and so does the first extension
-  pub end_of_change : (w v : Witness) → IsSecondRunFrom given es order w → IsRunOf order w v → IsEndFrom given es order v
+  pub end_of_change : (w v : Witness) → IsChangeFrom given es order w → IsRunOf order w v → IsEndFrom given es order v
   end_of_change (witness.Orders tree left right) v h is = absurd h
   end_of_change (witness.Twice tree o) v h is =
-      let g : _ = record { is_tree = h.shows.is_tree; stand = h.stand } in
+      let g : _ = record { is_tree = h.0.shows.is_tree; stand = h.0.stand } in
       subst (IsEndFrom given es order) (sym is.2) (record {
         is_first = is.1;
         is_tree = g;
-        ends = ap is_some (sure tree g is.0 o (allowed is.0 is.1) h.shows.allowed ∙ h.shows.ends);
+        ends = ap is_some (sure tree g is.0 o (allowed is.0 is.1) h.0.shows.allowed ∙ h.0.shows.ends);
       })
   end_of_change (witness.Ends tree o) v h is = absurd h
 

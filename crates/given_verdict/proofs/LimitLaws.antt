@@ -11,7 +11,7 @@ use Rattle.host_limits.specs.Limits.{domain_limit, IsAtMost, IsMoreThan, weight_
 use Rattle.host_limits.specs.declared.limits.Limits.{Limits}
 use Rattle.given_verdict.specs.Graphs.{asked_programs}
 use Rattle.size_limits.specs.Weights.{Weighs}
-use Rattle.size_limits.specs.Limits.{HasPaths}
+use Rattle.size_limits.specs.Paths.{HasPaths}
 use Rattle.given_verdict.specs.Limits.{HasFewPathsWith, IsLightWith, IsTooLargeWith}
 
 -- what follows from what holds of a refusal holds of it too

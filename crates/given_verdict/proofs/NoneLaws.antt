@@ -1,34 +1,31 @@
--- Where no folder is given, a verdict on the graph says all that is said of one from given trees.
-use Rattle.std.proofs.Common.{◌≡◌, ◌==◌, ℕ, Bool, true, inl, List, [], ◌∷◌, length, refl, eqb-true, arith}
+-- Where no folder is given, an answer about the graph says all that is said of one from given trees.
+use Rattle.std.proofs.Common.{◌≡◌, ◌==◌, ℕ, true, inl, List, [], ◌∷◌, length, refl, eqb-true, arith}
 use Rattle.std.specs.Prelude.{◌↔◌}
-use Rattle.fs_semantics.specs.FileTree.{Path, IsTree}
+use Rattle.fs_semantics.specs.FileTree.{Path}
 use Rattle.fs_semantics.specs.Programs.{Program}
 use Rattle.fs_semantics.specs.Orders.{Told}
-use Rattle.given_hosts.specs.Given.{IsGivenTree}
 use Rattle.given_hosts.proofs.GraphLaws.{none_to_stand}
 use Rattle.given_hosts.proofs.NoneGiven as none
-use Rattle.orders.specs.Relation.{Relation, comes, Comes}
+use Rattle.orders.specs.Relation.{Relation, comes}
 use Rattle.cnf.specs.Formulas.{Formula}
-use Rattle.cnf.specs.declared.log.Step.{Step}
-use Rattle.proof_check.specs.Refuted.{Refutation}
 use Rattle.order_encode.specs.declared.witness.Witness.{Witness}
 use Rattle.order_encode.specs.declared.witness.Witness.TheVariants as witness
-use Rattle.determinism.specs.First.{IsDifference}
-use Rattle.verdict.specs.declared.verdicts.Asked.{Asked}
-use Rattle.verdict.specs.declared.verdicts.Asked.TheVariants as asked
-use Rattle.verdict.specs.declared.verdicts.Second.TheVariants as second
-use Rattle.verdict.specs.declared.verdicts.Ends.TheVariants as ends
-use Rattle.verdict.specs.declared.verdicts.Verdict.{Verdict}
-use Rattle.verdict.specs.declared.verdicts.Verdict.TheVariants as verdict
-use Rattle.second_runs.specs.Questions.{StatesSecond, IsSecondProof, IsSecondChange}
+use Rattle.determinism.specs.First.{IsDifference, IfSure, IfDiffers}
+use Rattle.determinism.specs.Answers.{IsJudged}
+use Rattle.determinism.specs.declared.first.First.{First}
+use Rattle.determinism.specs.declared.first.First.TheVariants as first
+use Rattle.answering.specs.declared.answering.Answer.{Answer}
+use Rattle.answering.specs.declared.answering.Answer.TheVariants as answer
+use Rattle.verdict.specs.declared.verdicts.Settled.{Settled}
+use Rattle.verdict.specs.Settled.{IsSettled, IsUnsettled}
+use Rattle.second_runs.specs.Questions.{StatesSecond, IsSecondChange}
+use Rattle.second_runs.specs.Answers.{AnswersSecond}
 use Rattle.success.specs.Questions.{StatesEnd, IsEndProof, IsEnd}
-use Rattle.verdict.specs.Verdicts.{IsSpentOn, IsKnownBefore, IsOrderProof, AreProofsBefore}
-use Rattle.verdict.specs.Answers.{IsVerdict}
-use Rattle.given_verdict.specs.First.{IsDifferenceFrom}
-use Rattle.given_verdict.specs.Second.{StatesSecondFrom, IsSecondProofFrom, IsChangeFrom}
-use Rattle.given_verdict.specs.Ends.{StatesEndFrom, IsEndProofFrom, IsEndFrom}
-use Rattle.given_verdict.specs.Verdicts.{IsSpentOnFrom, IsKnownBeforeFrom, IsOrderProofFrom, AreProofsBeforeFrom}
-use Rattle.given_verdict.specs.Answers.{IsVerdictFrom}
+use Rattle.success.specs.Answers.{AnswersEnd}
+use Rattle.given_verdict.specs.First.{IsDifferenceFrom, IsJudgedFrom}
+use Rattle.given_verdict.specs.Settled.{IsSettledFrom, IsUnsettledFrom}
+use Rattle.given_verdict.specs.Second.{StatesSecondFrom, IsChangeFrom, AnswersAgainFrom}
+use Rattle.given_verdict.specs.Ends.{StatesEndFrom, IsEndProofFrom, IsEndFrom, AnswersEndFrom}
 
 -- where the count of the given folders is zero, there are none
 pub none_there : (given : List Path) → (length given == 0) ≡ true → given ≡ []
@@ -68,10 +65,6 @@ module _ (es : List Program) (order : Relation) where
     })),
   )
 
-  -- a proof that no second run changes anything is one from given trees
-  second_proof : (f : Formula) → IsSecondProof es order f → IsSecondProofFrom [] es order f
-  second_proof f h = record { states = states_second f h.states; no_model = h.no_model }
-
   -- a proof that the graph never succeeds is one from given trees
   pub end_proof : (f : Formula) → IsEndProof es order f → IsEndProofFrom [] es order f
   end_proof f h = record { states = states_end f h.states; no_model = h.no_model }
@@ -88,130 +81,50 @@ module _ (es : List Program) (order : Relation) where
   end_of (witness.Twice tree o) h = h
   end_of (witness.Ends tree o) h = record { is_first = h.0; is_tree = none_to_stand tree h.1; ends = h.2 }
 
-  -- what is said of a spent budget is said of it from given trees
-  spent_on : (budget : ℕ) (a : Asked) (f : Formula) (steps : List Step) → IsSpentOn es order budget a f steps → IsSpentOnFrom [] es order budget a f steps
-  spent_on budget asked.Deterministic f steps h = h
-  spent_on budget asked.Idempotent f steps h = inl (states_second f h.0, h.1)
-  spent_on budget asked.Succeeds f steps h = (states_end f h.0, h.1)
+  -- ---- the answers
 
-  -- what is known when a question is asked is known from given trees
-  known : (a : Asked) → IsKnownBefore es order a → IsKnownBeforeFrom [] es order a
-  known asked.Deterministic h = h
-  known asked.Idempotent h = (none.deterministic es (Told (comes order))).1 h
-  known asked.Succeeds h = ((none.deterministic es (Told (comes order))).1 h.0, (none.idempotent es (Told (comes order))).1 h.1)
+  -- a fact that follows of a deterministic graph follows of the answer
+  if_sure : (P Q : Type 0) → (P → Q) → (a : First) → IfSure a P → IfSure a Q
+  if_sure P Q f (first.Sure n s) h = f h
+  if_sure P Q f (first.Differs n w) h = tt
+  if_sure P Q f (first.Spent n cnf log) h = tt
 
-  -- what was refuted for the first question was refuted from given trees
-  order_proof : (proofs : List Refutation) → IsOrderProof es (Told (comes order)) proofs → IsOrderProofFrom [] es order proofs
-  order_proof [] h = h
-  order_proof (v ∷ vs) h = h
+  -- a difference that an answer shows is one from given trees
+  differs : (a : First) → IfDiffers a (IsDifference es (Told (comes order))) → IfDiffers a (IsDifferenceFrom [] es (Told (comes order)))
+  differs (first.Sure n s) h = tt
+  differs (first.Differs n w) h = difference w h
+  differs (first.Spent n cnf log) h = tt
 
-  -- what was refuted before a question was refuted from given trees
-  proofs : (a : Asked) (vs : List Refutation) → AreProofsBefore es order a vs → AreProofsBeforeFrom [] es order a vs
-  proofs asked.Deterministic vs h = h
-  proofs asked.Idempotent vs h = order_proof vs h
-  proofs asked.Succeeds vs h = record { front = h.front; last = h.last; are = h.are; first = order_proof h.front h.first; second = second_proof h.last.formula h.second }
+  -- a graph that is known to be deterministic is known to be so from given trees
+  pub settled : (s : Settled) → IsSettled es order s → IsSettledFrom [] es order s
+  settled s h = record { pruned = h.pruned; deterministic = (none.deterministic es (Told (comes order))).1 h.deterministic; alone = h.alone; proved = h.proved }
 
-  -- a verdict says all that one from given trees has to say
-  pub verdict_from : (budget : ℕ) (v : Verdict) → IsVerdict es order budget v → IsVerdictFrom [] es order budget v
-  verdict_from budget (verdict.NotDeterministic n w) h = record {
-    pruned = h.pruned;
-    differs = difference w h.differs;
-    deterministic = tt;
-    alone = tt;
-    proved = tt;
-    idempotent = tt;
-    same = tt;
-    changed = tt;
-    succeeds = tt;
-    from = tt;
-    fails = tt;
-    never = tt;
-    spent = tt;
-    known = tt;
-    refuted = tt;
-  }
-  verdict_from budget (verdict.Judged n s (second.Same v) (ends.From w)) h = record {
-    pruned = h.pruned;
-    differs = tt;
-    deterministic = (none.deterministic es (Told (comes order))).1 h.deterministic;
-    alone = h.alone;
-    proved = h.proved;
-    idempotent = (none.idempotent es (Told (comes order))).1 h.idempotent;
-    same = second_proof v.formula h.same;
-    changed = tt;
-    succeeds = (none.succeeds es (Told (comes order))).1 h.succeeds;
-    from = end_of w h.from;
-    fails = tt;
-    never = tt;
-    spent = tt;
-    known = tt;
-    refuted = tt;
-  }
-  verdict_from budget (verdict.Judged n s (second.Same v) (ends.Never u)) h = record {
-    pruned = h.pruned;
-    differs = tt;
-    deterministic = (none.deterministic es (Told (comes order))).1 h.deterministic;
-    alone = h.alone;
-    proved = h.proved;
-    idempotent = (none.idempotent es (Told (comes order))).1 h.idempotent;
-    same = second_proof v.formula h.same;
-    changed = tt;
-    succeeds = tt;
-    from = tt;
-    fails = λ s. h.fails ((none.succeeds es (Told (comes order))).0 s);
-    never = end_proof u.formula h.never;
-    spent = tt;
-    known = tt;
-    refuted = tt;
-  }
-  verdict_from budget (verdict.Judged n s (second.Differs x) (ends.From w)) h = record {
-    pruned = h.pruned;
-    differs = tt;
-    deterministic = (none.deterministic es (Told (comes order))).1 h.deterministic;
-    alone = h.alone;
-    proved = h.proved;
-    idempotent = tt;
-    same = tt;
-    changed = change x h.changed;
-    succeeds = (none.succeeds es (Told (comes order))).1 h.succeeds;
-    from = end_of w h.from;
-    fails = tt;
-    never = tt;
-    spent = tt;
-    known = tt;
-    refuted = tt;
-  }
-  verdict_from budget (verdict.Judged n s (second.Differs x) (ends.Never u)) h = record {
-    pruned = h.pruned;
-    differs = tt;
-    deterministic = (none.deterministic es (Told (comes order))).1 h.deterministic;
-    alone = h.alone;
-    proved = h.proved;
-    idempotent = tt;
-    same = tt;
-    changed = change x h.changed;
-    succeeds = tt;
-    from = tt;
-    fails = λ s. h.fails ((none.succeeds es (Told (comes order))).0 s);
-    never = end_proof u.formula h.never;
-    spent = tt;
-    known = tt;
-    refuted = tt;
-  }
-  verdict_from budget (verdict.Spent n a f log vs) h = record {
-    pruned = h.pruned;
-    differs = tt;
-    deterministic = tt;
-    alone = tt;
-    proved = tt;
-    idempotent = tt;
-    same = tt;
-    changed = tt;
-    succeeds = tt;
-    from = tt;
-    fails = tt;
-    never = tt;
-    spent = spent_on budget a f log.steps h.spent;
-    known = known a h.known;
-    refuted = proofs a vs h.refuted;
-  }
+  module _ (budget : ℕ) where
+    -- and one that isn't known to be so isn't from these
+    pub unsettled : (f : First) → IsUnsettled es order budget f → IsUnsettledFrom [] es order budget f
+    unsettled (first.Sure n s) h = h
+    unsettled (first.Differs n w) h = (h.0, difference w h.1)
+    unsettled (first.Spent n cnf log) h = h
+
+    -- what is said of the answer to the first question
+    pub judged : (a : First) → IsJudged es order budget a → IsJudgedFrom [] es order budget a
+    judged a h = record {
+      pruned = h.pruned;
+      alone = h.alone;
+      deterministic = if_sure _ _ (none.deterministic es (Told (comes order))).1 a h.deterministic;
+      proved = h.proved;
+      differs = differs a h.differs;
+      spent = h.spent;
+    }
+
+    -- what comes of the question of a second run
+    pub again : (a : Answer) → AnswersSecond es order budget a → AnswersAgainFrom [] es order budget a
+    again (answer.Refuted v) h = ((none.idempotent es (Told (comes order))).1 h.0, record { states = states_second v.formula h.1; no_model = h.2 })
+    again (answer.Shown w) h = change w h
+    again (answer.Spent cnf log) h = inl (states_second cnf h.0, h.1)
+
+    -- what comes of the question whether the graph succeeds
+    pub ended : (a : Answer) → AnswersEnd es order budget a → AnswersEndFrom [] es order budget a
+    ended (answer.Refuted v) h = ((λ s. h.0 ((none.succeeds es (Told (comes order))).0 s)), states_end v.formula h.1, h.2)
+    ended (answer.Shown w) h = end_of w h
+    ended (answer.Spent cnf log) h = (states_end cnf h.0, h.1)

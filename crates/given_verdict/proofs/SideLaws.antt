@@ -11,13 +11,19 @@ use Rattle.given_hosts.proofs.GraphLaws.{order_behind, deterministic}
 use Rattle.orders.specs.Relation.{Relation, comes}
 use Rattle.commute_prune.specs.Keeping.{Keeps}
 use Rattle.order_encode.specs.Witnesses.{IsFirstExtension}
-use Rattle.determinism.specs.First.{IsPrunedCount, IsProof}
+use Rattle.determinism.specs.First.{IsPrunedCount, IsProof, IsSpent, IsDifference, IfDiffers}
+use Rattle.determinism.specs.Answers.{HasTwoOrders}
+use Rattle.determinism.specs.declared.first.First.{First}
+use Rattle.determinism.specs.declared.first.First.TheVariants as first
 use Rattle.determinism.specs.declared.first.Sure.{Sure}
 use Rattle.determinism.specs.declared.first.Sure.TheVariants as sure
+use Rattle.verdict.specs.declared.verdicts.Settled.{Settled}
 use Rattle.verdict.specs.Verdicts.{IsByPruning, IfByProof}
-use Rattle.given_verdict.specs.First.{IsProofFrom}
-use Rattle.given_verdict.proofs.AskedLaws.{proof_of_guarded}
-use Rattle.given_verdict.proofs.FirstLaws.{counted, alone_back}
+use Rattle.verdict.specs.Settled.{IsSettled, IsUnsettled}
+use Rattle.given_verdict.specs.First.{IsProofFrom, IsAnswerWithout}
+use Rattle.given_verdict.specs.Settled.{IsSettledFrom, IsUnsettledFrom, without}
+use Rattle.given_verdict.proofs.AskedLaws.{proof_of_guarded, spent_of_guarded}
+use Rattle.given_verdict.proofs.FirstLaws.{counted, alone_back, two_orders, shown}
 
 module _ (given : List Path) (es : List Program) (order : Relation) (long : length es ≡ order.count) (more : Relation) (before : comes more ≡ guard_before order.count (comes order)) where
   -- the guard goes first in the order with the guard
@@ -63,3 +69,45 @@ module _ (given : List Path) (es : List Program) (order : Relation) (long : leng
         let l = behind o is in
         ap (λ r. outcome (guarded given es) r t) l.1 ∙ ends_where_stand given es l.0 t l.2.below g.stand
         ∙ sure t g l.0 q l.2 (subst (λ n. IsLinearExtension n (Told (comes order)) q) (sym long) is_first.allowed)
+
+-- ---- all that is known of a graph and the one with the guard in front
+
+pub record Side (given : List Path) (es : List Program) (order more : Relation) : Type 0 where
+  pub long : length es ≡ order.count
+  pub before : comes more ≡ guard_before order.count (comes order)
+  pub count : length (guarded given es) ≡ more.count
+  pub kept_by : (kept : List ℕ) → Keeps (guarded given es) (Told (guard_before order.count (comes order))) kept → Keeps es (Told (comes order)) kept
+  pub one : (kept left : List ℕ) → Keeps es (Told (comes order)) kept → Keeps es (Told (comes order)) left → kept ≡ left
+  pub few : (kept : List ℕ) → Keeps es (Told (comes order)) kept → length kept ≤ length es
+  pub first : List ℕ
+  pub whole : List ℕ
+  pub is_first : IsFirstExtension order first
+  pub is_whole : IsFirstExtension more whole
+
+module _ (given : List Path) (some : given ≢ []) (es : List Program) (order more : Relation) (side : Side given es order more) where
+  -- a graph that is deterministic with the guard is so from the trees in which the folders stand
+  pub settled_from : (s : Settled) → IsSettled (guarded given es) more s → IsSettledFrom given es order (without s)
+  settled_from s h = record {
+    pruned = pruned_from given es order side.long more side.before some side.kept_by side.one side.few s.pruned h.pruned;
+    deterministic = sure_from given es order side.long more side.before h.deterministic;
+    alone = alone_from given es order side.long more side.before some side.kept_by side.one side.few s.pruned s.sure h.pruned h.alone;
+    proved = proved_from given es order side.long more side.before some s.sure h.proved;
+  }
+
+  -- and one that isn't known to be so with the guard isn't from these
+  pub unsettled_from : (budget : ℕ) (f a : First) → IsUnsettled (guarded given es) more budget f → IsAnswerWithout f a → IsUnsettledFrom given es order budget a
+  unsettled_from budget (first.Sure n s) a h is = absurd h
+  unsettled_from budget (first.Differs n w) a h is = subst (IsUnsettledFrom given es order budget) (sym is.2) (
+    pruned_from given es order side.long more side.before some side.kept_by side.one side.few n h.0,
+    shown given es order side.long some side.kept_by side.one side.few w is.0 (subst (λ t. IsDifference (guarded given es) (Told t) w) side.before h.1) is.1,
+  )
+  unsettled_from budget (first.Spent n f log) a h is = subst (IsUnsettledFrom given es order budget) (sym is) (
+    pruned_from given es order side.long more side.before some side.kept_by side.one side.few n h.0,
+    spent_of_guarded given es order some budget f log.steps (subst (λ t. IsSpent (guarded given es) (Told t) budget f log.steps) side.before h.1),
+  )
+
+-- an answer of a graph that isn't known to be deterministic has two orders, if it shows any
+pub unsettled_orders : (es : List Program) (order : Relation) (budget : ℕ) (f : First) → IsUnsettled es order budget f → IfDiffers f HasTwoOrders
+unsettled_orders es order budget (first.Sure n s) h = tt
+unsettled_orders es order budget (first.Differs n w) h = two_orders es (Told (comes order)) (first.Differs n w) h.1
+unsettled_orders es order budget (first.Spent n f log) h = tt

@@ -1,19 +1,16 @@
 -- What is said of each verdict from the trees in which given folders stand.
-use Rattle.std.proofs.Common.{◌≡◌, ◌≢◌, ℕ, List, [], ◌∷◌, ◌++◌, length, refl, sym, subst}
-use Rattle.std.specs.Prelude.{◌↔◌}
+use Rattle.std.proofs.Common.{◌≡◌, ℕ, List, [], ◌∷◌, ◌++◌, refl, sym, subst}
 use Rattle.fs_semantics.specs.FileTree.{Path}
 use Rattle.fs_semantics.specs.Programs.{Program}
 use Rattle.fs_semantics.specs.Orders.{Told}
 use Rattle.given_hosts.specs.Given.{IsIdempotentFrom, SucceedsFrom}
 use Rattle.orders.specs.Relation.{Relation, comes}
-use Rattle.commute_prune.specs.Keeping.{Keeps}
 use Rattle.cnf.specs.Formulas.{Formula}
 use Rattle.cnf.specs.declared.log.Log.{Log}
 use Rattle.proof_check.specs.Refuted.{Refutation}
 use Rattle.answering.specs.Answers.{UsesUp}
 use Rattle.order_encode.specs.declared.witness.Witness.{Witness}
-use Rattle.order_encode.specs.declared.witness.Witness.TheVariants as witness
-use Rattle.determinism.specs.First.{IsPrunedCount, IsAlone, IfProved}
+use Rattle.determinism.specs.First.{IsPrunedCount}
 use Rattle.determinism.specs.declared.first.First.TheVariants as first
 use Rattle.determinism.specs.declared.first.Sure.{Sure}
 use Rattle.determinism.specs.declared.first.Sure.TheVariants as sure
@@ -24,11 +21,10 @@ use Rattle.verdict.specs.declared.verdicts.Second.TheVariants as second
 use Rattle.verdict.specs.declared.verdicts.Ends.{Ends}
 use Rattle.verdict.specs.declared.verdicts.Ends.TheVariants as ends
 use Rattle.verdict.specs.declared.verdicts.Verdict.TheVariants as verdict
-use Rattle.verdict.specs.Verdicts.{IsByPruning, IfByProof, IfSame, IfChanged, IfFrom, IfNever}
-use Rattle.verdict.specs.Answers.{proofs_in}
-use Rattle.verdict.proofs.VerdictLaws.{alone_by, proved_by}
+use Rattle.verdict.specs.Verdicts.{proofs_in, IfSame, IfChanged, IfFrom, IfNever}
+use Rattle.verdict.proofs.SureLaws.{alone_by, proved_by}
 use Rattle.given_verdict.specs.First.{IsProofFrom, IsJudgedFrom}
-use Rattle.given_verdict.specs.Second.{IsSecondProofFrom, IsSecondRunFrom, IsChangeFrom, IsSecondSpentFrom}
+use Rattle.given_verdict.specs.Second.{IsSecondProofFrom, IsChangeFrom, IsSecondSpentFrom}
 use Rattle.given_verdict.specs.Ends.{StatesEndFrom, IsEndProofFrom, IsEndFrom}
 use Rattle.given_verdict.specs.Verdicts.{IsSpentOnFrom, IsKnownBeforeFrom, IsOrderProofFrom, AreProofsBeforeFrom}
 use Rattle.given_verdict.specs.Answers.{IsVerdictFrom}
@@ -85,8 +81,8 @@ module _ (given : List Path) (es : List Program) (order : Relation) (budget : �
     pruned = is.pruned;
     differs = tt;
     deterministic = is.deterministic;
-    alone = alone_by es order budget n s is.alone;
-    proved = proved_by es order budget n s (IsProofFrom given es order) is.proved;
+    alone = alone_by es (Told (comes order)) n s is.alone;
+    proved = proved_by n s (IsProofFrom given es order) is.proved;
     idempotent = idempotent;
     same = same;
     changed = changed;
@@ -111,12 +107,6 @@ module _ (given : List Path) (es : List Program) (order : Relation) (budget : �
   order_proof n sure.Pruned is = is.alone.0 tt
   order_proof n (sure.Proved v) is = (is.proved, refl)
 
-  -- where folders are given nothing is said of the order
-  change_in_any : given ≢ [] → (w : Witness) → IsSecondRunFrom given es order w → IsChangeFrom given es order w
-  change_in_any some (witness.Orders tree left right) h = h
-  change_in_any some (witness.Twice tree o) h = (h, λ empty. absurd (some empty))
-  change_in_any some (witness.Ends tree o) h = h
-
   module _ (n : ℕ) (s : Sure) (is : IsJudgedFrom given es order budget (first.Sure n s)) where
     -- a budget that is spent on the second question makes a verdict
     pub spent_second : (f : Formula) (log : Log) (proofs : List Refutation) → proofs ≡ proofs_in s → IsSecondSpentFrom given es order budget f log.steps
@@ -140,6 +130,6 @@ module _ (given : List Path) (es : List Program) (order : Relation) (budget : �
     same_never v u again same fails end = judged n s (second.Same v) (ends.Never u) is again same tt tt tt fails end
 
     -- it makes one that a second run changes something and the graph succeeds
-    pub changed_from : given ≢ [] → (w end : Witness) → IsSecondRunFrom given es order w → SucceedsFrom given es (Told (comes order)) → IsEndFrom given es order end
+    pub changed_from : (w end : Witness) → IsChangeFrom given es order w → SucceedsFrom given es (Told (comes order)) → IsEndFrom given es order end
         → IsVerdictFrom given es order budget (verdict.Judged n s (second.Differs w) (ends.From end))
-    changed_from some w end changed succeeds from = judged n s (second.Differs w) (ends.From end) is tt tt (change_in_any some w changed) succeeds from tt tt
+    changed_from w end changed succeeds from = judged n s (second.Differs w) (ends.From end) is tt tt changed succeeds from tt tt

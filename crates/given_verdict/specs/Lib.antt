@@ -1,6 +1,7 @@
 pub mod Graphs
 pub mod Limits
 pub mod First
+pub mod Settled
 pub mod Second
 pub mod Behind
 pub mod Keeping

@@ -7,7 +7,7 @@ use Rattle.fs_semantics.specs.Programs.{Program}
 use Rattle.host_limits.specs.Limits.{domain_limit, IsWeightWithin, IsWeightOver}
 use Rattle.host_limits.specs.declared.limits.Limits.{Limits}
 use Rattle.size_limits.specs.Weights.{Weighs}
-use Rattle.size_limits.specs.Limits.{HasPaths}
+use Rattle.size_limits.specs.Paths.{HasPaths}
 use Rattle.given_verdict.specs.Graphs.{asked_programs}
 
 -- the domain of the programs, with the given paths, has at most as many paths as the limit says; it has more

@@ -51,12 +51,7 @@ abbrev pub IsSettledFrom : List Path → List Program → Relation → Formula �
 IsSettledFrom given es order f = IsIdempotentFrom given es (Told (comes order)) × IsSecondProofFrom given es order f
 
 -- From the tree, in which the given folders stand, this allowed order ends in a tree that a second run in it doesn't leave as it is.
-abbrev pub IsSecondRunFrom : List Path → List Program → Relation → Witness → Type 0
-IsSecondRunFrom given es order (witness.Orders tree left right) = ⊥
-IsSecondRunFrom given es order (witness.Twice tree o) = IsSecondRunCounterexampleFrom given es (Comes order) tree o
-IsSecondRunFrom given es order (witness.Ends tree o) = ⊥
-
--- The same. Where no folder is given the order is the first extension.
+-- Where no folder is given the order is the first extension.
 abbrev pub IsChangeFrom : List Path → List Program → Relation → Witness → Type 0
 IsChangeFrom given es order (witness.Orders tree left right) = ⊥
 IsChangeFrom given es order (witness.Twice tree o) = IsSecondRunCounterexampleFrom given es (Comes order) tree o
@@ -78,7 +73,7 @@ IsSecondSpentFrom given es order budget f steps = (StatesSecondFrom given es ord
 -- what comes of the questions
 abbrev pub AnswersAgainFrom : List Path → List Program → Relation → ℕ → Answer → Type 0
 AnswersAgainFrom given es order budget (answer.Refuted v) = IsSettledFrom given es order v.formula
-AnswersAgainFrom given es order budget (answer.Shown w) = IsSecondRunFrom given es order w
+AnswersAgainFrom given es order budget (answer.Shown w) = IsChangeFrom given es order w
 AnswersAgainFrom given es order budget (answer.Spent cnf log) = IsSecondSpentFrom given es order budget cnf log.steps
 
 -- ---- of a second run in the first extension

@@ -17,13 +17,13 @@ use answering::Answer;
 use apart_groups::{groups_beside, groups_of};
 use commute_prune::are_proper;
 use fs_lang::{Path, Program};
-use given_hosts::{guarded_graphs, guards, second_runs};
+use given_hosts::{guarded_graphs, guards, none_given, second_runs};
 use guarded_graph::{Guarded, with_guard};
 use order_extensions::has_first_extension;
 use plans::Plan;
 use proof_check::Verified;
 use rh_base::{NoMemory, Seq};
-use second_runs::same_in_groups;
+use second_runs::{ask_second, same_in_groups};
 use std::alloc::Global;
 
 /// Whether a second run in another order changes anything, where one in the first extension doesn't. It doesn't where no program
@@ -36,6 +36,7 @@ fn ask_on(
     same: Verified,
 ) -> Result<Answer, NoMemory>
     requires budget { 1 ≤ budget }
+    requires given { given.now ≢ [] }
     requires deterministic { IsDeterministicFrom given.now (meant_by plan.now) (Told (comes plan.now.order.now)) }
     requires never { NeverChangedFrom given.now (meant_by plan.now) plan.now.order.now }
     requires same { IsSecondProofFrom given.now (meant_by plan.now) plan.now.order.now same.formula }
@@ -102,7 +103,7 @@ fn same_from_groups(
 
 /// Asks whether a second run changes anything: of groups that don't touch one another, then in the first extension, and then in any
 /// order.
-pub(crate) fn ask_again_from(
+fn again_guarded(
     alloc: Global,
     plan: &Plan<'_>,
     given: &[Path],
@@ -122,4 +123,22 @@ pub(crate) fn ask_again_from(
         Answer::Shown(witness) => Ok(Answer::Shown(witness)),
         Answer::Spent(cnf, log) => Ok(Answer::Spent(cnf, log)),
     }
+}
+
+/// Asks whether a second run changes anything. Where no folder is given the graph itself is asked.
+pub(crate) fn ask_again_from(
+    alloc: Global,
+    plan: &Plan<'_>,
+    given: &[Path],
+    budget: u64,
+) -> Result<Answer, NoMemory>
+    requires budget { 1 ≤ budget }
+    requires deterministic { IsDeterministicFrom given.now (meant_by plan.now) (Told (comes plan.now.order.now)) }
+    ensures { IfOk result (AnswersAgainFrom given.now (meant_by plan.now) plan.now.order.now budget) }
+{
+    none_given();
+    if given.is_empty() {
+        return ask_second(alloc, plan, budget);
+    }
+    again_guarded(alloc, plan, given, budget)
 }

@@ -1,7 +1,7 @@
 //! Whether all orders end alike behind a first run. It is asked where a program may remove a given folder: a second run then begins
 //! where that may be missing, and needn't end as from the trees in which it stands.
 
-ghost use Rattle.std.specs.Prelude.{◌≡◌, ◌↔◌, ◌≤◌, ◌<◌, ◌++◌, length, map, IsTrue, IfOk, OnOk};
+ghost use Rattle.std.specs.Prelude.{◌≡◌, ◌≢◌, ◌↔◌, ◌≤◌, ◌<◌, [], ◌++◌, length, map, IsTrue, IfOk, OnOk};
 ghost use Rattle.std.specs.List.{AllByRecursion};
 ghost use Rattle.fs_semantics.specs.Orders.{Told};
 ghost use Rattle.fs_lang.specs.Meaning.{program_of};
@@ -11,13 +11,13 @@ ghost use Rattle.sure_folders.specs.Pruning.{chosen};
 ghost use Rattle.orders.specs.Relation.{comes};
 ghost use Rattle.plans.specs.Plans.{meant_by};
 ghost use Rattle.proof_check.specs.Refuted.{HasNoModel};
-ghost use Rattle.given_verdict.specs.Second.{NeverChangedFrom, IsSecondRunFrom, AnswersAgainFrom};
+ghost use Rattle.given_verdict.specs.Second.{NeverChangedFrom, IsChangeFrom, AnswersAgainFrom};
 ghost use Rattle.given_verdict.specs.Behind.{IsJudgedBehind, IsDifferenceBehind, EndsDifferently, IsDifferentOf};
 
 use crate::first::rest_of;
 use crate::second::push_all;
 use answering::Answer;
-use determinism::{First, Sure, joined, judge_any};
+use determinism::{First, Sure, joined, judge_order};
 use fs_lang::{Path, Program, Tree};
 use given_hosts::{guards, second_runs};
 use guarded_graph::{guard_of, with_first};
@@ -78,7 +78,7 @@ fn ask_behind(
         programs: graph.programs.as_slice(),
         order: &graph.order,
     };
-    let answered = judge_any(alloc, &asked, budget)?;
+    let answered = judge_order(alloc, &asked, budget)?;
     Ok(answered)
 }
 
@@ -123,9 +123,10 @@ fn changed_run(
     given: &[Path],
     witness: Witness,
 ) -> Result<Witness, NoMemory>
+    requires given { given.now ≢ [] }
     requires deterministic { IsDeterministicFrom given.now (meant_by plan.now) (Told (comes plan.now.order.now)) }
     requires differs { IsDifferenceBehind given.now (meant_by plan.now) plan.now.order.now witness }
-    ensures { IfOk result (IsSecondRunFrom given.now (meant_by plan.now) plan.now.order.now) }
+    ensures { IfOk result (IsChangeFrom given.now (meant_by plan.now) plan.now.order.now) }
 {
     guards();
     second_runs();
@@ -180,6 +181,7 @@ pub(crate) fn ask_others(
     same: Verified,
 ) -> Result<Answer, NoMemory>
     requires budget { 1 ≤ budget }
+    requires given { given.now ≢ [] }
     requires deterministic { IsDeterministicFrom given.now (meant_by plan.now) (Told (comes plan.now.order.now)) }
     requires never { NeverChangedFrom given.now (meant_by plan.now) plan.now.order.now }
     requires same { HasNoModel same.formula }

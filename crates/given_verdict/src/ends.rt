@@ -9,7 +9,7 @@ ghost use Rattle.given_verdict.specs.Ends.{AnswersEndFrom, IsFirstRun, IsRunOf, 
 
 use answering::Answer;
 use fs_lang::{Path, Tree};
-use given_hosts::{guarded_graphs, guards};
+use given_hosts::{guarded_graphs, guards, none_given};
 use guarded_graph::with_guard;
 use order_encode::Witness;
 use order_extensions::has_first_extension;
@@ -44,7 +44,7 @@ pub fn run_of(alloc: Global, order: &Order, witness: &Witness) -> Result<Witness
 }
 
 /// Asks whether the graph succeeds: the question of the graph with the guard in front. The order that is told has no guard.
-pub(crate) fn ask_end_from(
+fn end_guarded(
     alloc: Global,
     plan: &Plan<'_>,
     given: &[Path],
@@ -71,4 +71,22 @@ pub(crate) fn ask_end_from(
         Answer::Shown(witness) => Ok(Answer::Shown(run_of(alloc, plan.order, &witness)?)),
         Answer::Spent(cnf, log) => Ok(Answer::Spent(cnf, log)),
     }
+}
+
+/// Asks whether the graph succeeds from a tree in which the given folders stand. Where no folder is given the graph itself is asked.
+pub fn ask_end_from(
+    alloc: Global,
+    plan: &Plan<'_>,
+    given: &[Path],
+    budget: u64,
+) -> Result<Answer, NoMemory>
+    requires budget { 1 ≤ budget }
+    requires deterministic { IsDeterministicFrom given.now (meant_by plan.now) (Told (comes plan.now.order.now)) }
+    ensures { IfOk result (AnswersEndFrom given.now (meant_by plan.now) plan.now.order.now budget) }
+{
+    none_given();
+    if given.is_empty() {
+        return ask_end(alloc, plan, budget);
+    }
+    end_guarded(alloc, plan, given, budget)
 }

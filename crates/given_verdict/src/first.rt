@@ -6,9 +6,10 @@ ghost use Rattle.determinism.specs.First.{IfDiffers};
 ghost use Rattle.determinism.specs.Answers.{HasTwoOrders};
 ghost use Rattle.determinism.specs.declared.first.First.TheVariants as variants;
 ghost use Rattle.given_verdict.specs.First.{IsJudgedFrom, IsUnguarded, IsAnswerWithout};
+ghost use Rattle.given_verdict.specs.Settled.{without};
 
 use commute_prune::pruning;
-use determinism::{First, judge_any};
+use determinism::{First, judge_order};
 use fs_lang::Path;
 use given_hosts::{guarded_graphs, guards};
 use guarded_graph::{guard_is_pruned, with_guard};
@@ -16,6 +17,7 @@ use order_encode::Witness;
 use plans::Plan;
 use rh_base::{NoMemory, Seq};
 use std::alloc::Global;
+use verdict::Settled;
 
 /// An order without the first of its numbers.
 pub(crate) fn rest_of(alloc: Global, order: &[u32]) -> Result<Seq<u32>, NoMemory>
@@ -74,8 +76,18 @@ pub fn answer_without(alloc: Global, answered: First) -> Result<First, NoMemory>
     }
 }
 
+/// Why the graph is deterministic, where this is why the graph with the guard is: one program less was pruned.
+pub fn settled_without(settled: Settled) -> Settled
+    ensures { result ≡ without settled }
+{
+    Settled {
+        pruned: settled.pruned.saturating_sub(1),
+        sure: settled.sure,
+    }
+}
+
 /// Asks about the graph with the guard in front. What pruning keeps is what it keeps of the programs, whatever is given.
-pub(crate) fn first_from(
+fn first_guarded(
     alloc: Global,
     plan: &Plan<'_>,
     given: &[Path],
@@ -94,6 +106,23 @@ pub(crate) fn first_from(
         programs: graph.programs.as_slice(),
         order: &graph.order,
     };
-    let answered = judge_any(alloc, &asked, budget)?;
+    let answered = judge_order(alloc, &asked, budget)?;
     answer_without(alloc, answered)
+}
+
+/// Whether the programs are deterministic from the trees in which the given folders stand, however large the graph is. Where no folder
+/// is given the graph itself is asked.
+pub fn first_from(
+    alloc: Global,
+    plan: &Plan<'_>,
+    given: &[Path],
+    budget: u64,
+) -> Result<First, NoMemory>
+    requires { 1 ≤ budget }
+    ensures { IfOk result (IsJudgedFrom given.now (meant_by plan.now) plan.now.order.now budget) }
+{
+    if given.is_empty() {
+        return judge_order(alloc, plan, budget);
+    }
+    first_guarded(alloc, plan, given, budget)
 }

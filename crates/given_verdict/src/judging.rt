@@ -1,6 +1,6 @@
 //! Answering the three questions.
 
-ghost use Rattle.std.specs.Prelude.{◌≢◌, ◌≤◌, [], IfOk, IfErr};
+ghost use Rattle.std.specs.Prelude.{◌≤◌, IfOk, IfErr};
 ghost use Rattle.rh_base.specs.Refused.{IfRefused};
 ghost use Rattle.fs_semantics.specs.Orders.{Told};
 ghost use Rattle.given_hosts.specs.Given.{IsIdempotentFrom};
@@ -17,16 +17,16 @@ use crate::again::ask_again_from;
 use crate::ends::{ask_end_from, run_of};
 use crate::first::first_from;
 use crate::limits::check_size_with;
+use crate::refuted::{order_proofs, two_proofs};
 use answering::Answer;
 use determinism::{First, Sure};
 use fs_lang::Path;
-use given_hosts::none_given;
 use plans::Plan;
 use proof_check::Verified;
 use question_terms::Terms;
 use rh_base::{Fault, NoMemory, Seq};
 use std::alloc::Global;
-use verdict::{Asked, Ends, Second, Verdict, judged, order_proofs, two_proofs};
+use verdict::{Asked, Ends, Second, Verdict};
 
 /// Asks whether the graph succeeds, where no second run changes anything.
 fn judge_same(
@@ -39,7 +39,6 @@ fn judge_same(
     same: Verified,
 ) -> Result<Verdict, NoMemory>
     requires budget { 1 ≤ budget }
-    requires given { given.now ≢ [] }
     requires judged { IsJudgedFrom given.now (meant_by plan.now) plan.now.order.now budget (first.Sure pruned sure) }
     requires idempotent { IsIdempotentFrom given.now (meant_by plan.now) (Told (comes plan.now.order.now)) }
     requires same { IsSecondProofFrom given.now (meant_by plan.now) plan.now.order.now same.formula }
@@ -82,7 +81,6 @@ fn judge_sure(
     sure: Sure,
 ) -> Result<Verdict, NoMemory>
     requires budget { 1 ≤ budget }
-    requires given { given.now ≢ [] }
     requires judged { IsJudgedFrom given.now (meant_by plan.now) plan.now.order.now budget (first.Sure pruned sure) }
     ensures { IfOk result (IsVerdictFrom given.now (meant_by plan.now) plan.now.order.now budget) }
 {
@@ -120,7 +118,6 @@ fn judge_on(
     answered: First,
 ) -> Result<Verdict, NoMemory>
     requires budget { 1 ≤ budget }
-    requires given { given.now ≢ [] }
     requires judged { IsJudgedFrom given.now (meant_by plan.now) plan.now.order.now budget answered }
     ensures { IfOk result (IsVerdictFrom given.now (meant_by plan.now) plan.now.order.now budget) }
 {
@@ -137,7 +134,7 @@ fn judge_on(
     }
 }
 
-/// The verdict on a graph, however large it is. Where no folder is given the graph itself is asked.
+/// The verdict on a graph, however large it is.
 fn judged_from(
     alloc: Global,
     plan: &Plan<'_>,
@@ -147,17 +144,14 @@ fn judged_from(
     requires { 1 ≤ budget }
     ensures { IfOk result (IsVerdictFrom given.now (meant_by plan.now) plan.now.order.now budget) }
 {
-    none_given();
-    if given.is_empty() {
-        return judged(alloc, plan, budget);
-    }
     let answered = first_from(alloc, plan, given, budget)?;
     judge_on(alloc, plan, given, budget, answered)
 }
 
 /// Whether the programs are deterministic from the trees in which the given folders stand; where they are, whether a second run
 /// changes anything, and whether they succeed from such a tree. Each question has the whole budget. The second run begins in what
-/// the first left, where a given folder may be missing.
+/// the first left, where a given folder may be missing. Where it changes something the first one ends in a tree, and the last question
+/// isn't asked.
 pub fn judge_from(alloc: Global, plan: &Plan<'_>, terms: &Terms) -> Result<Verdict, Fault>
     // It is refused exactly where the graph is too large to be asked about.
     ensures paths { IfOk result (λ judged. HasFewPathsWith terms.now.limits terms.now.given (meant_by plan.now)) }

@@ -1,5 +1,6 @@
-//! The verdict on a graph of programs from the file trees in which given folders stand. They stand where a first run begins; the
-//! second run begins in what the first left, and a run may remove one.
+//! The verdict on a graph of programs from the file trees in which given folders stand: the three questions one after the other. The
+//! folders stand where a first run begins; the second run begins in what the first left, and a run may remove one. Where no folder is
+//! given, each question is that of the graph itself, over every file tree.
 #![tactic(auto)]
 
 mod again;
@@ -9,9 +10,10 @@ mod first;
 mod judging;
 mod keeping;
 mod limits;
+mod refuted;
 mod second;
 
-pub use ends::run_of;
-pub use first::answer_without;
+pub use ends::{ask_end_from, run_of};
+pub use first::{answer_without, first_from, settled_without};
 pub use judging::judge_from;
 pub use limits::check_size_with;

@@ -4,27 +4,18 @@ ghost use Rattle.std.specs.Prelude.{◌≡◌, map, false, IsTrue, IfOk, IfErr};
 ghost use Rattle.rh_base.specs.Refused.{IfRefused};
 ghost use Rattle.fs_lang.specs.Meaning.{program_of};
 ghost use Rattle.host_limits.specs.Limits.{IsWeightWithin, IsWeightOver};
-ghost use Rattle.size_limits.specs.Limits.{HasPaths};
+ghost use Rattle.size_limits.specs.Paths.{HasPaths};
 ghost use Rattle.given_verdict.specs.Graphs.{asked_programs};
 ghost use Rattle.given_verdict.specs.Limits.{HasFewPathsWith, IsLightWith, IsTooLargeWith};
 
 use fs_lang::{Path, Program};
 use guarded_graph::guarded_programs;
 use host_limits::Limits;
-use path_domain::domain;
 use rh_base::{Fault, NoMemory};
-use size_limits::{path_counts, weight, weights};
+use size_limits::{path_count, path_counts, weight, weights};
 use std::alloc::Global;
 
-/// How many paths the domain of these programs has.
-fn path_count(alloc: Global, programs: &[Program]) -> Result<u64, NoMemory>
-    ensures { IfOk result (HasPaths (map program_of programs.now)) }
-{
-    let d = domain(alloc, programs)?;
-    Ok(d.table.path_count())
-}
-
-/// The same with the given paths.
+/// How many paths the domain of these programs has, with the given paths.
 fn path_count_with(alloc: Global, programs: &[Program], given: &[Path]) -> Result<u64, NoMemory>
     ensures { IfOk result (HasPaths (asked_programs given.now (map program_of programs.now))) }
 {

@@ -1,10 +1,12 @@
 //! Entries that graphs ensure, each row with what is answered.
 
+use crate::asked::everywhere;
 use crate::judging::refused;
 use crate::programs::{one_in_turn, ordered, unordered};
 use determinism::First;
-use ensured_entry::{Ensured, Late, Wanted, judge_entry};
+use ensured_entry::{Ensured, Late};
 use fs_lang::{Path, PathFault, Program};
+use given_entry::judge_entry_from;
 use order_encode::Witness;
 use orders::Order;
 use plans::Plan;
@@ -14,6 +16,7 @@ use std::test::Fail;
 use test_programs::programs;
 use test_rows::{joined, same_at, same_of, text};
 use verdict::Ends;
+use wanted_entry::Wanted;
 
 fn wanted_file(alloc: Global, path: &str, content: &str) -> Result<Wanted, PathFault> {
     let path = Path::read(alloc, path)?;
@@ -91,7 +94,8 @@ fn told_by(
         return Err(Fail::from("as many nodes as programs, and a budget"));
     }
     let plan = Plan { programs, order };
-    let answer = Boxed::new(alloc, judge_entry(alloc, &plan, wanted, budget))?;
+    let terms = everywhere(alloc, budget);
+    let answer = Boxed::new(alloc, judge_entry_from(alloc, &plan, wanted, &terms))?;
     Ok(shown(alloc, answer.get())?)
 }
 

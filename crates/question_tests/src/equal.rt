@@ -1,10 +1,12 @@
 //! Two graphs each, with whether they do the same.
 
+use crate::asked::everywhere;
 use crate::judging::refused;
 use crate::programs::ordered;
 use determinism::First;
-use equal_graphs::{Compared, compare};
+use equal_graphs::Compared;
 use fs_lang::Program;
+use given_equal::compare_from;
 use orders::Order;
 use plans::Plan;
 use rh_base::{Boxed, Fault, NoMemory};
@@ -59,7 +61,8 @@ fn told(
         programs: right,
         order: other,
     };
-    let answer = Boxed::new(alloc, compare(alloc, &one, &second, u64::MAX))?;
+    let terms = everywhere(alloc, u64::MAX);
+    let answer = Boxed::new(alloc, compare_from(alloc, &one, &second, &terms))?;
     Ok(shown(alloc, answer.get())?)
 }
 

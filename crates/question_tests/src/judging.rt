@@ -1,4 +1,4 @@
-//! Answers to the question of order, and programs that are too large for it.
+//! Answers to the question of order.
 
 use crate::programs::{all_again, one_in_turn, ordered, unordered};
 use determinism::{First, Sure, judge_order};
@@ -46,21 +46,15 @@ fn pruned_of(first: &First) -> u32 {
     }
 }
 
-fn shown(alloc: Global, judged: &Result<First, Fault>) -> Result<String, NoMemory> {
-    match judged {
-        Ok(first) => numbered(alloc, front_of(first), pruned_of(first) as u64, " pruned"),
-        Err(fault) => refused(alloc, fault),
-    }
-}
-
 /// What is answered of programs in this order.
 fn told_by(alloc: Global, programs: &[Program], order: &Order) -> Result<String, Fail> {
     if order.count() as usize != programs.len() {
         return Err(Fail::from("as many nodes as programs"));
     }
     let plan = Plan { programs, order };
-    let answer = Boxed::new(alloc, judge_order(alloc, &plan, u64::MAX))?;
-    Ok(shown(alloc, answer.get())?)
+    let answer = Boxed::new(alloc, judge_order(alloc, &plan, u64::MAX)?)?;
+    let first = answer.get();
+    Ok(numbered(alloc, front_of(first), pruned_of(first) as u64, " pruned")?)
 }
 
 /// What is answered of programs without an order between them.
@@ -92,12 +86,6 @@ fn paths_of_the_domain(rt: HostRuntime) -> Result<(), Fail> {
 }
 
 #[test]
-fn too_many_paths_of_the_domain(rt: HostRuntime) -> Result<(), Fail> {
-    let all = one_in_turn(rt.alloc(), 4_097)?;
-    is_told(rt.alloc(), "4097 folders", all.as_slice(), "70 domain")
-}
-
-#[test]
 fn weights_of_programs(rt: HostRuntime) -> Result<(), Fail> {
     let all = all_again(rt.alloc(), 100, 35)?;
     is_told(
@@ -106,10 +94,4 @@ fn weights_of_programs(rt: HostRuntime) -> Result<(), Fail> {
         all.as_slice(),
         "sure, 100 pruned",
     )
-}
-
-#[test]
-fn programs_that_are_too_heavy(rt: HostRuntime) -> Result<(), Fail> {
-    let all = all_again(rt.alloc(), 3, 38_889)?;
-    is_told(rt.alloc(), "3 programs", all.as_slice(), "70 weight")
 }

@@ -1,11 +1,13 @@
 //! Arrows that are missing between programs, each row with those that are answered.
 
+use crate::asked::everywhere;
 use crate::judging::refused;
 use crate::programs::{all_again, ordered, unordered};
 use fs_lang::Program;
+use given_repair::repair_from;
 use orders::Order;
 use plans::Plan;
-use repair::{Repaired, arrows, repair};
+use repair::{Repaired, arrows};
 use rh_base::{Boxed, Fault, NoMemory};
 use std::alloc::Global;
 use std::test::Fail;
@@ -53,7 +55,8 @@ fn told_by(alloc: Global, programs: &[Program], order: &Order) -> Result<String,
         return Err(Fail::from("as many nodes as programs"));
     }
     let plan = Plan { programs, order };
-    let answer = Boxed::new(alloc, repair(alloc, &plan, u64::MAX))?;
+    let terms = everywhere(alloc, u64::MAX);
+    let answer = Boxed::new(alloc, repair_from(alloc, &plan, &terms))?;
     Ok(shown(alloc, answer.get())?)
 }
 

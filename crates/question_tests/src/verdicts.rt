@@ -1,8 +1,10 @@
 //! Verdicts on programs, and programs that are too large for one.
 
+use crate::asked::everywhere;
 use crate::judging::refused;
 use crate::programs::{all_again, one_in_turn, ordered, unordered};
 use fs_lang::Program;
+use given_verdict::judge_from;
 use orders::Order;
 use plans::Plan;
 use rh_base::{Boxed, Fault, NoMemory};
@@ -10,7 +12,7 @@ use std::alloc::Global;
 use std::test::Fail;
 use test_programs::programs;
 use test_rows::{numbered, same};
-use verdict::{Ends, Second, Verdict, judge};
+use verdict::{Ends, Second, Verdict};
 
 /// What is judged, behind how many pairs were pruned.
 fn judged(second: &Second, ends: &Ends) -> &'static str {
@@ -51,7 +53,8 @@ fn told_by(alloc: Global, programs: &[Program], order: &Order) -> Result<String,
         return Err(Fail::from("as many nodes as programs"));
     }
     let plan = Plan { programs, order };
-    let answer = Boxed::new(alloc, judge(alloc, &plan, u64::MAX))?;
+    let terms = everywhere(alloc, u64::MAX);
+    let answer = Boxed::new(alloc, judge_from(alloc, &plan, &terms))?;
     Ok(shown(alloc, answer.get())?)
 }
 

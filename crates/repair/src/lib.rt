@@ -27,4 +27,4 @@ mod with;
 
 pub use laws::arrows;
 pub use repaired::Repaired;
-pub use repairing::{repair, repair_any};
+pub use repairing::repair;

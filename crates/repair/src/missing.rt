@@ -9,7 +9,7 @@ ghost use Rattle.determinism.specs.First.{IsDifference};
 ghost use Rattle.repair.specs.Missing.{first_apart, IsMissing, IsLook};
 
 use cnf::{Cnf, Log};
-use determinism::{First, judge_any};
+use determinism::{First, judge_order};
 use fs_lang::{Outcome, Tree};
 use fs_replay::replay;
 use order_encode::Witness;
@@ -88,7 +88,7 @@ pub(crate) fn look_at(alloc: Global, plan: &Plan<'_>, budget: u64) -> Result<Loo
     requires { 1 ≤ budget }
     ensures { IfOk result (IsLook (meant_by plan.now) plan.now.order.now budget) }
 {
-    let first = judge_any(alloc, plan, budget)?;
+    let first = judge_order(alloc, plan, budget)?;
     match first {
         First::Sure { .. } => Ok(Look::Sure),
         First::Differs { witness, .. } => {

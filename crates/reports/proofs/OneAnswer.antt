@@ -16,7 +16,7 @@ use Rattle.fs_semantics.specs.Orders.{Told}
 use Rattle.dep_graph.specs.declared.answer.Graph.{Graph}
 use Rattle.host_limits.specs.declared.limits.Limits.{Limits}
 use Rattle.host_limits.specs.Limits.{weight_limit, IsAtMost, IsMoreThan, IsWeightWithin}
-use Rattle.size_limits.specs.Limits.{HasPaths}
+use Rattle.size_limits.specs.Paths.{HasPaths}
 use Rattle.given_verdict.specs.Graphs.{asked_programs}
 use Rattle.given_verdict.specs.Limits.{HasFewPathsWith, HasManyPathsWith, IsLightWith, IsHeavyWith, IsTooLargeWith}
 use Rattle.given_entry.specs.Sizes.{probed, HasFewPathsProbed, HasManyPathsProbed, IsTooLargeProbed}

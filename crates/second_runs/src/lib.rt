@@ -6,4 +6,4 @@ mod groups;
 mod second;
 
 pub use groups::same_in_groups;
-pub use second::{ask_second, first_run};
+pub use second::ask_second;

@@ -8,18 +8,18 @@ ghost use Rattle.proof_check.specs.Refuted.{HasNoModel};
 ghost use Rattle.order_encode.specs.Asked.{CanShow};
 ghost use Rattle.order_encode.specs.declared.witness.Witness.{Witness};
 ghost use Rattle.second_runs.specs.Questions.{StatesSecond, IsSecondChange};
-ghost use Rattle.second_runs.specs.Answers.{AnswersSecond, IsTwice, IsEndOf};
+ghost use Rattle.second_runs.specs.Answers.{AnswersSecond};
 
 use crate::groups::same_by_groups;
 use answering::{Answer, answer_to};
 use commute_prune::are_proper;
 use finite_domain::{domains, witnesses_over_the_domain};
 use fs_semantics::{constructs, counterexamples};
-use order_encode::{Question, Witness, ask_twice};
+use order_encode::{Question, ask_twice};
 use order_extensions::has_first_extension;
 use path_domain::domain;
 use plans::Plan;
-use rh_base::{NoMemory, Seq};
+use rh_base::NoMemory;
 use std::alloc::Global;
 
 /// The question whether a second run changes anything. Where its formula has no model, none does: the programs are deterministic,
@@ -51,19 +51,4 @@ pub fn ask_second(alloc: Global, plan: &Plan<'_>, budget: u64) -> Result<Answer,
     }
     let question = second_question(alloc, plan)?;
     answer_to(alloc, question, budget)
-}
-
-/// The tree from which a second run changes something, and its order: the first run ends in a tree.
-pub fn first_run(alloc: Global, witness: &Witness) -> Result<Witness, NoMemory>
-    requires { IsTwice witness.now }
-    ensures { IfOk result (IsEndOf witness.now) }
-{
-    match witness {
-        Witness::Twice { tree, order } => {
-            let tree = tree.copy(alloc)?;
-            let order = Seq::from_vec(order.as_slice().to_vec(alloc)?);
-            Ok(Witness::Ends { tree, order })
-        }
-        Witness::Orders { .. } | Witness::Ends { .. } => unreachable!(),
-    }
 }

@@ -1,3 +1,2 @@
 pub mod WeightLaws
 pub mod OnceLaws
-pub mod LimitLaws

@@ -12,7 +12,7 @@ use Rattle.fs_semantics.proofs.Trees.{path_total, path_eq_refl, path_eq_same}
 use Rattle.fs_semantics.proofs.Keys.{same_bool}
 use Rattle.finite_domain.specs.Layouts.{other_segment, HaveSegment, IsFirstFailure, IsFreshChild}
 use Rattle.size_limits.specs.Weights.{child_count, all_work, capped, Weighs}
-use Rattle.size_limits.specs.Limits.{HasPaths}
+use Rattle.size_limits.specs.Paths.{HasPaths}
 
 -- each path is less than the next
 abbrev Sorted : List Path → Type 0

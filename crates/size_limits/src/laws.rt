@@ -3,7 +3,7 @@
 ghost use Rattle.std.specs.Prelude.{◌≡◌, ℕ, List};
 ghost use Rattle.fs_semantics.specs.Programs.{Program};
 ghost use Rattle.size_limits.specs.Weights.{Weighs};
-ghost use Rattle.size_limits.specs.Limits.{HasPaths};
+ghost use Rattle.size_limits.specs.Paths.{HasPaths};
 
 /// Programs have one weight at most.
 pub fn weights()

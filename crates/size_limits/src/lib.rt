@@ -1,11 +1,11 @@
-//! How large the questions about a graph of programs are, and whether they are too large to be asked.
+//! How large the questions about a graph of programs are: how many paths their domain has, and what they weigh.
 #![tactic(auto)]
 
 mod counts;
 mod laws;
-mod limits;
+mod paths;
 mod weighing;
 
 pub use laws::{path_counts, weights};
-pub use limits::check_size;
+pub use paths::{path_count, paths_of};
 pub use weighing::weight;

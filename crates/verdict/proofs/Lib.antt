@@ -1,2 +1,1 @@
-pub mod WitnessLaws
-pub mod VerdictLaws
+pub mod SureLaws

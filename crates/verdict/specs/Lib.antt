@@ -1,2 +1,2 @@
 pub mod Verdicts
-pub mod Answers
+pub mod Settled

@@ -1,15 +1,9 @@
 -- What is answered to the three questions, and what each answer says.
-use Rattle.std.specs.Prelude.{◌≡◌, ℕ, List, [], ◌∷◌, ◌++◌}
-use Rattle.fs_semantics.specs.Programs.{Program}
-use Rattle.fs_semantics.specs.Orders.{Told, IsDeterministic, IsIdempotent}
-use Rattle.orders.specs.Relation.{Relation, comes}
-use Rattle.commute_prune.specs.Keeping.{Keeps}
+use Rattle.std.specs.Prelude.{ℕ, List, [], ◌∷◌}
 use Rattle.cnf.specs.Formulas.{Formula}
 use Rattle.cnf.specs.declared.log.Step.{Step}
 use Rattle.proof_check.specs.Refuted.{Refutation}
 use Rattle.order_encode.specs.declared.witness.Witness.{Witness}
-use Rattle.determinism.specs.First.{IsProof, IsSpent}
-use Rattle.answering.specs.Answers.{UsesUp}
 use Rattle.determinism.specs.declared.first.Sure.{Sure}
 use Rattle.determinism.specs.declared.first.Sure.TheVariants as sure
 use Rattle.verdict.specs.declared.verdicts.Asked.{Asked}
@@ -18,8 +12,11 @@ use Rattle.verdict.specs.declared.verdicts.Second.TheVariants as second
 use Rattle.verdict.specs.declared.verdicts.Ends.TheVariants as ends
 use Rattle.verdict.specs.declared.verdicts.Verdict.{Verdict}
 use Rattle.verdict.specs.declared.verdicts.Verdict.TheVariants as verdict
-use Rattle.second_runs.specs.Questions.{StatesSecond, IsSecondProof}
-use Rattle.success.specs.Questions.{StatesEnd}
+
+-- what was refuted for why the graph is deterministic
+abbrev pub proofs_in : Sure → List Refutation
+proofs_in sure.Pruned = []
+proofs_in (sure.Proved v) = v ∷ []
 
 -- how many programs pruning doesn't keep
 abbrev pub pruned_in : Verdict → ℕ
@@ -88,35 +85,3 @@ abbrev pub IfSpentAfter : Verdict → (Asked → List Refutation → Type 0) →
 IfSpentAfter (verdict.NotDeterministic pruned w) P = Unit {0}
 IfSpentAfter (verdict.Judged pruned s again end) P = Unit {0}
 IfSpentAfter (verdict.Spent pruned a cnf log proofs) P = P a proofs
-
--- The formula states the question, and the log over it is a working one of just as many steps as the budget. The greatest u64 is
--- no budget.
-abbrev pub IsSpentOn : List Program → Relation → ℕ → Asked → Formula → List Step → Type 0
-IsSpentOn es order budget asked.Deterministic f steps = IsSpent es (Told (comes order)) budget f steps
-IsSpentOn es order budget asked.Idempotent f steps = StatesSecond es order f × UsesUp budget f steps
-IsSpentOn es order budget asked.Succeeds f steps = StatesEnd es order f × UsesUp budget f steps
-
--- what is known once this question is asked
-abbrev pub IsKnownBefore : List Program → Relation → Asked → Type 0
-IsKnownBefore es order asked.Deterministic = Unit {0}
-IsKnownBefore es order asked.Idempotent = IsDeterministic es (Told (comes order))
-IsKnownBefore es order asked.Succeeds = IsDeterministic es (Told (comes order)) × IsIdempotent es (Told (comes order))
-
--- what was refuted to answer the first question: nothing where pruning keeps nothing, else one formula
-abbrev pub IsOrderProof : List Program → (ℕ → ℕ → Type 0) → List Refutation → Type 0
-IsOrderProof es before [] = Keeps es before []
-IsOrderProof es before (v ∷ vs) = IsProof es before v.formula × (vs ≡ [])
-
--- what was refuted to answer the first two
-pub record AreTwoProofs (es : List Program) (order : Relation) (proofs : List Refutation) : Type 0 where
-  pub front : List Refutation
-  pub last : Refutation
-  pub are : proofs ≡ front ++ last ∷ []
-  pub first : IsOrderProof es (Told (comes order)) front
-  pub second : IsSecondProof es order last.formula
-
--- what was refuted before this question was asked, in the order asked
-abbrev pub AreProofsBefore : List Program → Relation → Asked → List Refutation → Type 0
-AreProofsBefore es order asked.Deterministic proofs = proofs ≡ []
-AreProofsBefore es order asked.Idempotent proofs = IsOrderProof es (Told (comes order)) proofs
-AreProofsBefore es order asked.Succeeds proofs = AreTwoProofs es order proofs

@@ -1,9 +1,7 @@
-//! The verdict on a graph of programs: the three questions one after the other, whether it is deterministic (`determinism`), whether
-//! a second run changes anything (`second_runs`), and whether it succeeds from some tree (`success`).
+//! The words of a verdict: what is answered to the three questions, whether a graph is deterministic (`determinism`), whether a
+//! second run changes anything (`second_runs`), and whether it succeeds from some tree (`success`).
 #![tactic(auto)]
 
-mod judging;
 mod verdicts;
 
-pub use judging::{judge, judged, order_proofs, two_proofs};
-pub use verdicts::{Asked, Ends, Second, Verdict};
+pub use verdicts::{Asked, Ends, Second, Settled, Verdict};

@@ -14,6 +14,13 @@ pub enum Asked {
     Succeeds,
 }
 
+/// Why a graph is deterministic, and how many programs pruning doesn't keep.
+#[derive(Debug, Drop)]
+pub struct Settled {
+    pub pruned: u32,
+    pub sure: Sure,
+}
+
 /// Whether a second run changes anything: no, since a formula was refuted; or it does in the witness's order from its tree.
 #[derive(Debug, Drop)]
 pub enum Second {

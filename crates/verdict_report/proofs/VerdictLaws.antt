@@ -25,7 +25,7 @@ use Rattle.verdict.specs.declared.verdicts.Ends.{Ends}
 use Rattle.verdict.specs.declared.verdicts.Ends.TheVariants as ends
 use Rattle.verdict.specs.declared.verdicts.Verdict.{Verdict}
 use Rattle.verdict.specs.declared.verdicts.Verdict.TheVariants as verdict
-use Rattle.verdict.specs.Answers.{proofs_in}
+use Rattle.verdict.specs.Verdicts.{proofs_in}
 use Rattle.verdict.specs.Verdicts.{IsByPruning, IfByProof, IfFrom, IfNever}
 use Rattle.given_verdict.specs.Limits.{HasFewPathsWith, IsLightWith}
 use Rattle.given_verdict.specs.First.{IsDifferenceFrom, IsProofFrom}

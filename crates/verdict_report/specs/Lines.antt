@@ -17,7 +17,7 @@ use Rattle.verdict.specs.declared.verdicts.Ends.{Ends}
 use Rattle.verdict.specs.declared.verdicts.Ends.TheVariants as ends
 use Rattle.verdict.specs.declared.verdicts.Verdict.{Verdict}
 use Rattle.verdict.specs.declared.verdicts.Verdict.TheVariants as verdict
-use Rattle.verdict.specs.Answers.{proofs_in}
+use Rattle.verdict.specs.Verdicts.{proofs_in}
 use Rattle.verdict_text.specs.Lines.{tree_line, order_line, outcome_line}
 use Rattle.verdict_report.specs.declared.report.Report.{Report}
 

@@ -3,7 +3,7 @@
 ghost use Rattle.std.specs.Prelude.{◌≡◌, ◌++◌, IfOk, OnOk};
 ghost use Rattle.std.specs.List.{AllByRecursion, flat_map};
 ghost use Rattle.cnf.specs.ProofText.{proof_text};
-ghost use Rattle.verdict.specs.Answers.{proofs_in};
+ghost use Rattle.verdict.specs.Verdicts.{proofs_in};
 ghost use Rattle.verdict_report.specs.Lines.{end_proofs, later_proofs, proofs_of, proofs_text};
 ghost use Rattle.verdict_report.specs.Told.{IsProved, AreTrimmedOf};
 

@@ -1,15 +1,12 @@
 use Rattle.std.proofs.Common.{map, subst}
 use Rattle.fs_lang.specs.Meaning.{program_of}
 use Rattle.ensured_entry.specs.Questions.{AnswersMissing}
-use Rattle.ensured_entry.proofs.EnsuredLaws.{failed, spent_on_entry}
 use Rattle.ensured_entry.proofs.ensuring.ask_entry.Goals as goal
 
 pub returns-in-Shown : goal.returns-in-Shown
 returns-in-Shown c =
-    let es = map program_of c.args.plan.now.programs.now in
-    let order = c.args.plan.now.order.now in
-    let found = subst (AnswersMissing es order c.args.wanted.now c.args.budget) c.in-Shown.is c.in_ok-answer.ensures in
-    failed es order c.args.wanted.now c.args.budget c.args.ordered.pruned c.args.ordered.sure c.requires.judged c.in-Shown.witness found
+    let found = subst (AnswersMissing (map program_of c.args.plan.now.programs.now) c.args.plan.now.order.now c.args.wanted.now c.args.budget) c.in-Shown.is c.in_ok-answer.ensures in
+    (c.requires.settled, found)
 
 pub ensure_held-requires-clause-holds : goal.ensure_held-requires-clause-holds
 ensure_held-requires-clause-holds c =
@@ -23,7 +20,5 @@ ensure_held-requires-clause-proof c =
 
 pub returns-in-Spent : goal.returns-in-Spent
 returns-in-Spent c =
-    let es = map program_of c.args.plan.now.programs.now in
-    let order = c.args.plan.now.order.now in
-    let found = subst (AnswersMissing es order c.args.wanted.now c.args.budget) c.in-Spent.is c.in_ok-answer.ensures in
-    spent_on_entry es order c.args.wanted.now c.args.budget c.args.ordered.pruned c.args.ordered.sure c.requires.judged c.in-Spent.cnf c.in-Spent.log found.0 found.1
+    let found = subst (AnswersMissing (map program_of c.args.plan.now.programs.now) c.args.plan.now.order.now c.args.wanted.now c.args.budget) c.in-Spent.is c.in_ok-answer.ensures in
+    (c.requires.settled, tt, found)

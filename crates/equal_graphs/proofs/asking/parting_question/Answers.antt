@@ -16,12 +16,12 @@ returns-clause-states c = IfOk-weaker c.ask_parting.result _ _ (λ q held.
     let second = c.has_first_extension-2.ensures in
     let asked = c.in_ok-asked.asked in
     let f = q.formula in
-    let exact = subst (λ q. IsSatisfiable f ↔ HaveParting es asked.left fs q c.args.domain.now) c.as_slice.ensures held in
+    let exact = subst (λ q. IsSatisfiable f ↔ HaveParting es asked.left fs q c.in_ok-domain.domain) c.as_slice.ensures held in
     states es c.args.left.now.order.now fs c.args.right.now.order.now (length-map c.args.left.now.programs.now program_of ∙ c.args.left.now.count) (length-map c.args.right.now.programs.now program_of ∙ c.args.right.now.count)
     c.requires.left_sure c.requires.right_sure first.first second.first
     (record { allowed = first.allowed; least = first.least }) (record { allowed = second.allowed; least = second.least })
     asked.left asked.right c.in_ok-asked.ensures.left c.in_ok-asked.ensures.right
-    c.domains.ensures.laid_out c.shadows.ensures.exist c.shadows.ensures.tell c.args.domain.now c.requires.layout f exact) c.ask_parting.ensures.exact
+    c.domains.ensures.laid_out c.shadows.ensures.exist c.shadows.ensures.tell c.in_ok-domain.domain c.in_ok-domain.ensures.layout f exact) c.ask_parting.ensures.exact
 
 pub returns-clause-equal : goal.returns-clause-equal
 returns-clause-equal c = IfOk-weaker c.ask_parting.result _ _ (λ q held.
@@ -31,12 +31,12 @@ returns-clause-equal c = IfOk-weaker c.ask_parting.result _ _ (λ q held.
     let second = c.has_first_extension-2.ensures in
     let asked = c.in_ok-asked.asked in
     let f = q.formula in
-    let exact = subst (λ q. IsSatisfiable f ↔ HaveParting es asked.left fs q c.args.domain.now) c.as_slice.ensures held in
+    let exact = subst (λ q. IsSatisfiable f ↔ HaveParting es asked.left fs q c.in_ok-domain.domain) c.as_slice.ensures held in
     equal es c.args.left.now.order.now fs c.args.right.now.order.now (length-map c.args.left.now.programs.now program_of ∙ c.args.left.now.count) (length-map c.args.right.now.programs.now program_of ∙ c.args.right.now.count)
     c.requires.left_sure c.requires.right_sure first.first second.first
     (record { allowed = first.allowed; least = first.least }) (record { allowed = second.allowed; least = second.least })
     asked.left asked.right c.in_ok-asked.ensures.left c.in_ok-asked.ensures.right
-    c.domains.ensures.laid_out c.shadows.ensures.exist c.shadows.ensures.tell c.args.domain.now c.requires.layout f exact) c.ask_parting.ensures.exact
+    c.domains.ensures.laid_out c.shadows.ensures.exist c.shadows.ensures.tell c.in_ok-domain.domain c.in_ok-domain.ensures.layout f exact) c.ask_parting.ensures.exact
 
 pub returns-clause-models : goal.returns-clause-models
 returns-clause-models c = IfOk-weaker c.ask_parting.result _ _ (λ q models w told.
@@ -45,8 +45,8 @@ returns-clause-models c = IfOk-weaker c.ask_parting.result _ _ (λ q models w to
     let first = c.has_first_extension.ensures in
     let second = c.has_first_extension-2.ensures in
     let asked = c.in_ok-asked.asked in
-    let part = subst (λ q. ShowsParting es asked.left fs q c.args.domain.now w) c.as_slice.ensures (models w told) in
+    let part = subst (λ q. ShowsParting es asked.left fs q c.in_ok-domain.domain w) c.as_slice.ensures (models w told) in
     shown es c.args.left.now.order.now fs c.args.right.now.order.now (length-map c.args.left.now.programs.now program_of ∙ c.args.left.now.count) (length-map c.args.right.now.programs.now program_of ∙ c.args.right.now.count)
     c.requires.left_sure c.requires.right_sure first.first second.first
     (record { allowed = first.allowed; least = first.least }) (record { allowed = second.allowed; least = second.least })
-    asked.left asked.right c.in_ok-asked.ensures.left c.in_ok-asked.ensures.right c.args.domain.now w part) c.ask_parting.ensures.models
+    asked.left asked.right c.in_ok-asked.ensures.left c.in_ok-asked.ensures.right c.in_ok-domain.domain w part) c.ask_parting.ensures.models

@@ -3,7 +3,6 @@ use Rattle.fs_lang.specs.Meaning.{program_of}
 use Rattle.equal_graphs.specs.Equal.{FirstsPart}
 use Rattle.equal_graphs.specs.Questions.{AnswersParting}
 use Rattle.equal_graphs.proofs.PartLaws.{parts_in}
-use Rattle.equal_graphs.proofs.ComparedLaws.{equal, differ, spent_on}
 use Rattle.equal_graphs.proofs.comparing.ask_settled.Goals as goal
 
 pub returns-in-Shown : goal.returns-in-Shown
@@ -13,26 +12,21 @@ returns-in-Shown c =
     let order = c.args.left.now.order.now in
     let other = c.args.right.now.order.now in
     let found = subst (AnswersParting es order fs other c.args.budget) c.in-Shown.is c.in_ok-answer.ensures in
-    differ es order fs other c.args.budget c.args.one c.args.second c.requires.left_settled c.requires.right_settled c.tree_in.result
-    (subst (FirstsPart es order fs other) (sym c.tree_in.ensures) (parts_in es order fs other c.in-Shown.witness found))
+    (c.requires.left_settled, c.requires.right_settled, subst (FirstsPart es order fs other) (sym c.tree_in.ensures) (parts_in es order fs other c.in-Shown.witness found))
 
 pub returns-in-Refuted : goal.returns-in-Refuted
 returns-in-Refuted c =
     let es = map program_of c.args.left.now.programs.now in
     let fs = map program_of c.args.right.now.programs.now in
-    let order = c.args.left.now.order.now in
-    let other = c.args.right.now.order.now in
-    let found = subst (AnswersParting es order fs other c.args.budget) c.in-Refuted.is c.in_ok-answer.ensures in
-    equal es order fs other c.args.budget c.args.one c.args.second c.requires.left_settled c.requires.right_settled c.in-Refuted.proof found.0 (record { states = found.1; no_model = found.2 })
+    let found = subst (AnswersParting es c.args.left.now.order.now fs c.args.right.now.order.now c.args.budget) c.in-Refuted.is c.in_ok-answer.ensures in
+    (c.requires.left_settled, c.requires.right_settled, found.0, record { states = found.1; no_model = found.2 })
 
 pub returns-in-Spent : goal.returns-in-Spent
 returns-in-Spent c =
     let es = map program_of c.args.left.now.programs.now in
     let fs = map program_of c.args.right.now.programs.now in
-    let order = c.args.left.now.order.now in
-    let other = c.args.right.now.order.now in
-    let found = subst (AnswersParting es order fs other c.args.budget) c.in-Spent.is c.in_ok-answer.ensures in
-    spent_on es order fs other c.args.budget c.args.one c.args.second c.requires.left_settled c.requires.right_settled c.in-Spent.cnf c.in-Spent.log found.0 found.1
+    let found = subst (AnswersParting es c.args.left.now.order.now fs c.args.right.now.order.now c.args.budget) c.in-Spent.is c.in_ok-answer.ensures in
+    (c.requires.left_settled, c.requires.right_settled, found)
 
 pub ask_equal-requires-clause-left_sure : goal.ask_equal-requires-clause-left_sure
 ask_equal-requires-clause-left_sure c = c.requires.left_settled.deterministic

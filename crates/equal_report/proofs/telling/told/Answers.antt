@@ -8,17 +8,15 @@ use Rattle.equal_report.proofs.telling.told.Goals as goal
 
 pub report_of-requires-clause-names_told : goal.report_of-requires-clause-names_told
 report_of-requires-clause-names_told c =
-    let said = c.in_ok-compared.ensures.compared in
     tellable c.args.terms.now.given _ _ (map program_of c.args.left.now.programs.now) c.args.left.now.order.now (map program_of c.args.right.now.programs.now) c.args.right.now.order.now (budget_of c.args.terms.now.conflicts)
     (c.requires.names ∙ sym (length-map c.args.left.now.programs.now program_of ∙ c.args.left.now.count)) (c.requires.others ∙ sym (length-map c.args.right.now.programs.now program_of ∙ c.args.right.now.count))
-    c.in_ok-compared.compared said.left said.right
+    c.in_ok-compared.compared c.in_ok-compared.ensures.compared
 
 pub report_of-requires-clause-programs_told : goal.report_of-requires-clause-programs_told
 report_of-requires-clause-programs_told c =
-    let said = c.in_ok-compared.ensures.compared in
     tellable c.args.terms.now.given _ _ (map program_of c.args.left.now.programs.now) c.args.left.now.order.now (map program_of c.args.right.now.programs.now) c.args.right.now.order.now (budget_of c.args.terms.now.conflicts)
     (sym (length-map c.args.left.now.programs.now program_of)) (sym (length-map c.args.right.now.programs.now program_of))
-    c.in_ok-compared.compared said.left said.right
+    c.in_ok-compared.compared c.in_ok-compared.ensures.compared
 
 pub returns-clause-told : goal.returns-clause-told
 returns-clause-told c =

@@ -1,21 +1,18 @@
 use Rattle.std.proofs.Common.{◌≡◌, map, length, sym, ap, subst, ◌∙◌}
 use Rattle.std.proofs.lemmas.Result.{IfOk-weaker}
 use Rattle.std.proofs.lemmas.List.{length-map}
-use Rattle.fs_semantics.specs.Orders.{Told, up_from}
+use Rattle.fs_semantics.specs.Orders.{up_from}
 use Rattle.fs_lang.specs.Meaning.{program_of}
 use Rattle.orders.specs.Relation.{comes}
-use Rattle.given_hosts.specs.Guard.{guarded, guard_before, GoesFirst}
+use Rattle.given_hosts.specs.Guard.{guard_before, GoesFirst}
 use Rattle.given_hosts.proofs.GuardLaws.{goes_first}
-use Rattle.given_equal.proofs.WithoutLaws.{Side, left_orders, right_orders, both_from}
+use Rattle.given_verdict.proofs.SideLaws.{Side}
+use Rattle.given_equal.proofs.WithoutLaws.{has_orders, both_from}
 use Rattle.given_equal.proofs.comparing.guarded_compare.Goals as goal
 
-pub compared_without-requires-clause-left : goal.compared_without-requires-clause-left
-compared_without-requires-clause-left c =
-    left_orders (map program_of c.as_slice.result.now) c.in_ok-one.one.order (map program_of c.as_slice-2.result.now) c.in_ok-second.second.order c.args.budget c.in_ok-answered.answered c.in_ok-answered.ensures
-
-pub compared_without-requires-clause-right : goal.compared_without-requires-clause-right
-compared_without-requires-clause-right c =
-    right_orders (map program_of c.as_slice.result.now) c.in_ok-one.one.order (map program_of c.as_slice-2.result.now) c.in_ok-second.second.order c.args.budget c.in_ok-answered.answered c.in_ok-answered.ensures
+pub compared_without-requires : goal.compared_without-requires
+compared_without-requires c =
+    has_orders (map program_of c.as_slice.result.now) c.in_ok-one.one.order (map program_of c.as_slice-2.result.now) c.in_ok-second.second.order c.args.budget c.in_ok-answered.answered c.in_ok-answered.ensures
 
 pub returns : goal.returns
 returns c = IfOk-weaker c.compared_without.result _ _ (λ without is.

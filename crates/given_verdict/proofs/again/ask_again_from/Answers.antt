@@ -1,25 +1,22 @@
-use Rattle.std.proofs.Common.{map, subst, inl}
+use Rattle.std.proofs.Common.{map, sym, subst, ◌∙◌}
+use Rattle.std.proofs.lemmas.Result.{IfOk-weaker}
+use Rattle.fs_semantics.specs.Orders.{Told}
 use Rattle.fs_lang.specs.Meaning.{program_of}
-use Rattle.given_verdict.specs.Second.{AnswersSecondFrom}
-use Rattle.given_verdict.proofs.BehindLaws.{change_of_first}
+use Rattle.given_hosts.specs.Given.{IsDeterministicFrom}
+use Rattle.orders.specs.Relation.{comes}
+use Rattle.given_verdict.specs.Second.{AnswersAgainFrom}
+use Rattle.given_verdict.proofs.NoneLaws.{none_there, again}
 use Rattle.given_verdict.proofs.again.ask_again_from.Goals as goal
 
-pub ask_on-requires-clause-never : goal.ask_on-requires-clause-never
-ask_on-requires-clause-never c =
-    let found = subst (AnswersSecondFrom c.args.given.now (map program_of c.args.plan.now.programs.now) c.args.plan.now.order.now c.args.budget) c.in-Refuted.is c.in_ok-found.ensures in
-    found.0
-
-pub ask_on-requires-clause-same : goal.ask_on-requires-clause-same
-ask_on-requires-clause-same c =
-    let found = subst (AnswersSecondFrom c.args.given.now (map program_of c.args.plan.now.programs.now) c.args.plan.now.order.now c.args.budget) c.in-Refuted.is c.in_ok-found.ensures in
-    record { states = found.1; no_model = found.2 }
-
-pub returns-in-Shown : goal.returns-in-Shown
-returns-in-Shown c =
+pub ask_second-requires-clause-deterministic : goal.ask_second-requires-clause-deterministic
+ask_second-requires-clause-deterministic c =
     let es = map program_of c.args.plan.now.programs.now in
-    change_of_first c.args.given.now es c.args.plan.now.order.now c.in-Shown.witness (subst (AnswersSecondFrom c.args.given.now es c.args.plan.now.order.now c.args.budget) c.in-Shown.is c.in_ok-found.ensures)
+    let order = c.args.plan.now.order.now in
+    let sure = subst (λ g. IsDeterministicFrom g es (Told (comes order))) (none_there c.args.given.now (sym c.is_empty.ensures ∙ c.if-is_empty.true)) c.requires.deterministic in
+    (c.none_given.ensures.deterministic es (comes order)).0 sure
 
-pub returns-in-Spent : goal.returns-in-Spent
-returns-in-Spent c =
-    let found = subst (AnswersSecondFrom c.args.given.now (map program_of c.args.plan.now.programs.now) c.args.plan.now.order.now c.args.budget) c.in-Spent.is c.in_ok-found.ensures in
-    inl found
+pub returns-then-is_empty : goal.returns-then-is_empty
+returns-then-is_empty c = IfOk-weaker c.ask_second.result _ _ (λ answered is.
+    let es = map program_of c.args.plan.now.programs.now in
+    let order = c.args.plan.now.order.now in
+    subst (λ g. AnswersAgainFrom g es order c.args.budget answered) (sym (none_there c.args.given.now (sym c.is_empty.ensures ∙ c.if-is_empty.true))) (again es order c.args.budget answered is)) c.ask_second.ensures

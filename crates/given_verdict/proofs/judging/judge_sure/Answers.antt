@@ -30,7 +30,7 @@ returns-in_ok-end-in-Shown c =
     let sure = c.requires.judged.deterministic in
     let found = subst (AnswersAgainFrom given es order c.args.budget) c.in-Shown.is c.in_ok-again.ensures in
     let end = end_of_change given es order long sure c.in-Shown.witness c.in_ok-end-in-Shown.end found c.in_ok-end-in-Shown.ensures in
-    changed_from given es order c.args.budget c.args.pruned c.args.sure c.requires.judged c.requires.given c.in-Shown.witness c.in_ok-end-in-Shown.end found (succeeds given es order long sure c.in_ok-end-in-Shown.end end) end
+    changed_from given es order c.args.budget c.args.pruned c.args.sure c.requires.judged c.in-Shown.witness c.in_ok-end-in-Shown.end found (succeeds given es order long sure c.in_ok-end-in-Shown.end end) end
 
 pub returns-in_ok-proofs-in-Spent : goal.returns-in_ok-proofs-in-Spent
 returns-in_ok-proofs-in-Spent c =

@@ -1,5 +1,0 @@
-use Rattle.path_domain.specs.Laid.{layout_of}
-use Rattle.ensured_entry.proofs.probing.path_count.Goals as goal
-
-pub returns : goal.returns
-returns c = λ es is. record { layout = layout_of c.args.domain.now; is_layout = is; count = c.path_count.ensures }
