@@ -4,12 +4,13 @@ use Rattle.std.specs.List.{AllByRecursion}
 use Rattle.std.proofs.Math.ListN.{length-set}
 use Rattle.std.proofs.lemmas.List.{length-append, get_or-set_other, get_or-set_same}
 use Rattle.std.proofs.lemmas.Bool.{cases_eq}
-use Rattle.sat_solver.specs.Literals.{has}
-use Rattle.sat_solver.specs.Trails.{Way}
-use Rattle.sat_solver.specs.declared.watches.Watcher.{Watcher}
-use Rattle.sat_solver.specs.Watching.{clause, names, IsQuiet, IsEntry, Gives, IsOnce, IsSound, IsListed, pushing, watching}
-use Rattle.sat_solver.proofs.Marks.{has_at}
-use Rattle.sat_solver.proofs.Scans.{names_kept, names_last, all_more}
+use Rattle.unit_propagation.specs.Literals.{has}
+use Rattle.unit_propagation.specs.Trails.{Way}
+use Rattle.unit_propagation.specs.declared.watches.Watcher.{Watcher}
+use Rattle.unit_propagation.specs.Watching.{clause, names, IsQuiet, IsEntry, Gives, IsOnce, IsSound, IsListed}
+use Rattle.sat_solver.specs.Learned.{pushing, watching}
+use Rattle.unit_propagation.proofs.Marks.{has_at}
+use Rattle.unit_propagation.proofs.Scans.{names_kept, names_last, all_more}
 
 -- ---- one more watcher
 module _ (w : List (List Watcher)) (x : ℕ) (u : Watcher) (below : x < length w) where

@@ -4,12 +4,13 @@ use Rattle.std.specs.Prelude.{◌==◌}
 use Rattle.std.proofs.Math.ListN.{set}
 use Rattle.std.proofs.lemmas.List.{get_or-set_other}
 use Rattle.std.proofs.lemmas.Bool.{eq-eqb, and_from, or_cases}
-use Rattle.sat_solver.specs.Literals.{opposite, has}
-use Rattle.sat_solver.specs.Trails.{Way}
-use Rattle.sat_solver.specs.Watching.{clause}
-use Rattle.sat_solver.specs.Resolving.{IsApart, is_seen, in_clause, Reaches, IsLeft, IsGiven}
+use Rattle.unit_propagation.specs.Literals.{opposite, has}
+use Rattle.unit_propagation.specs.Trails.{Way}
+use Rattle.unit_propagation.specs.Watching.{clause}
+use Rattle.unit_propagation.specs.Trails.{IsApart}
+use Rattle.sat_solver.specs.Resolving.{is_seen, in_clause, Reaches, IsLeft, IsGiven}
 use Rattle.sat_solver.specs.declared.analyze.Resolution.{Resolution}
-use Rattle.sat_solver.proofs.Marks.{has_at, opposite_twice, half_opposite}
+use Rattle.unit_propagation.proofs.Marks.{has_at, opposite_twice, half_opposite}
 use Rattle.sat_solver.proofs.Passing.{reaches_more, resolved_is}
 use Rattle.sat_solver.proofs.Covering.{and_left, and_right, still_seen}
 use Rattle.sat_solver.proofs.Arranges.{has_less}

@@ -4,16 +4,15 @@
 //! to derive it. The resolvent has the false literals whose variables are marked.
 
 ghost use Rattle.std.specs.Prelude.{◌≡◌, ◌⊎◌, ℕ, ◌+◌, ◌-◌, ◌*◌, ◌/◌, ◌<◌, ◌≤◌, ◌^◌, ◌==◌, ◌&&◌, ◌||◌, not, true, false, [], ◌∷◌, ◌++◌, length, take, IfOk, OnOk, slice_index, slice_set, Bool};
-ghost use Rattle.sat_solver.specs.Literals.{opposite, has};
-ghost use Rattle.sat_solver.specs.Resolving.{IsApart, is_seen, IsMarked, in_clause, Reaches, IsGiven, IsLeft, IsClear, Covers};
-ghost use Rattle.sat_solver.specs.Watching.{clause, IsFalse, IsOnce, AtRest};
+ghost use Rattle.unit_propagation.specs.Literals.{opposite, has};
+ghost use Rattle.unit_propagation.specs.Trails.{IsApart};
+ghost use Rattle.sat_solver.specs.Resolving.{is_seen, IsMarked, in_clause, Reaches, IsGiven, IsLeft, IsClear, Covers};
+ghost use Rattle.unit_propagation.specs.Watching.{clause, IsFalse, IsOnce, AtRest};
 
-use crate::literal::opposite;
 use crate::plan::Plan;
-use crate::store::Store;
-use crate::trail::Trail;
 use rh_base::NoMemory;
 use std::alloc::Global;
+use unit_propagation::{Store, Trail, opposite};
 
 /// One resolution: the number of the antecedent, and the pivot, which is the literal of the resolvent that is taken out.
 #[derive(Clone, Copy)]

@@ -3,12 +3,12 @@
 //! a watched one has to be.
 
 ghost use Rattle.std.specs.Prelude.{◌≡◌, ℕ, ◌-◌, ◌*◌, ◌<◌, ◌≤◌, true, false, length, take, slice_index};
-ghost use Rattle.sat_solver.specs.Literals.{opposite, has};
-ghost use Rattle.sat_solver.specs.Stored.{exchanged};
-ghost use Rattle.sat_solver.specs.Resolving.{IsApart};
+ghost use Rattle.unit_propagation.specs.Literals.{opposite, has};
+ghost use Rattle.unit_propagation.specs.Stored.{exchanged};
+ghost use Rattle.unit_propagation.specs.Trails.{IsApart};
 ghost use Rattle.sat_solver.specs.Arranging.{IsBehind, IsArranged};
 
-use crate::trail::Trail;
+use unit_propagation::Trail;
 
 /// The literal at a place.
 #[inline]

@@ -7,20 +7,17 @@ ghost use Rattle.cnf.specs.declared.lit.Lit.{Lit};
 ghost use Rattle.cnf.specs.Clauses.{clause_of};
 ghost use Rattle.cnf.specs.Proofs.{IsRight};
 ghost use Rattle.cnf.specs.Store.{lit_of};
-ghost use Rattle.sat_solver.specs.Watching.{IsStopped, IsSound, IsFalse};
+ghost use Rattle.unit_propagation.specs.Watching.{IsStopped, IsSound, IsFalse};
 ghost use Rattle.sat_solver.specs.Working.{IsNew};
 ghost use Rattle.sat_solver.specs.Meaning.{link_of, IsStoreOf, IsDerived, IsLearnable, IsBlank};
 
 use crate::analyze::{Resolution, Resolvent, collect, refute};
 use crate::arrange::put_last_second;
-use crate::literal::opposite;
 use crate::minimize::analyze;
-use crate::store::Store;
-use crate::trail::Trail;
-use crate::watches::Watches;
 use cnf::{Clause, Link, Lit, Step};
 use rh_base::{NoMemory, Seq};
 use std::alloc::Global;
+use unit_propagation::{Store, Trail, Watches, opposite};
 
 /// The literal that has this index.
 fn lit_of(literal: u32) -> Lit

@@ -3,16 +3,15 @@
 //! that literal. With a clause of one literal it goes back ahead of all decisions, and so it does when it restarts.
 
 ghost use Rattle.std.specs.Prelude.{◌≡◌, ℕ, ◌+◌, ◌*◌, ◌<◌, ◌≤◌, true, false, [], ◌∷◌, ◌++◌, length, take, OnOk, slice_index};
-ghost use Rattle.sat_solver.specs.Literals.{opposite, has};
+ghost use Rattle.unit_propagation.specs.Literals.{opposite, has};
 ghost use Rattle.sat_solver.specs.Meaning.{IsLearnable};
-ghost use Rattle.sat_solver.specs.Watching.{watching};
-ghost use Rattle.sat_solver.specs.Watching.{IsReady, IsStopped, IsAddable, with_literal};
+ghost use Rattle.sat_solver.specs.Learned.{watching};
+ghost use Rattle.unit_propagation.specs.Watching.{IsReady, IsStopped, with_literal};
+ghost use Rattle.sat_solver.specs.Learned.{IsAddable};
 
 use crate::arrange::level_of;
-use crate::store::Store;
-use crate::trail::Trail;
-use crate::watches::{Watcher, Watches};
 use rh_base::NoMemory;
+use unit_propagation::{Store, Trail, Watcher, Watches};
 
 /// Watches the first two literals of the next clause.
 pub(crate) fn watch(

@@ -6,17 +6,15 @@ ghost use Rattle.std.specs.Prelude.{◌≡◌, ℕ, ◌+◌, ◌*◌, ◌<◌, �
 ghost use Rattle.cnf.specs.Literals.{HasVariable};
 ghost use Rattle.cnf.specs.Formulas.{clause_at};
 ghost use Rattle.cnf.specs.Store.{index_of};
-ghost use Rattle.sat_solver.specs.Literals.{has};
-ghost use Rattle.sat_solver.specs.Watching.{IsReady, IsSound, IsFalse, IsOnce};
+ghost use Rattle.unit_propagation.specs.Literals.{has};
+ghost use Rattle.unit_propagation.specs.Watching.{IsReady, IsSound, IsFalse, IsOnce};
 ghost use Rattle.sat_solver.specs.Solving.{IsLoaded, IsBroken};
 
 use crate::learn::{learn_unit, watch};
-use crate::store::Store;
-use crate::trail::Trail;
-use crate::watches::Watches;
 use cnf::{Cnf, Lit};
 use rh_base::NoMemory;
 use std::alloc::Global;
+use unit_propagation::{Store, Trail, Watches};
 
 /// The index of a literal.
 fn index_of(lit: Lit) -> u32

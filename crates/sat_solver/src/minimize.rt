@@ -3,15 +3,15 @@
 //! of the last level are resolved away; that of the first unique implication point stays.
 
 ghost use Rattle.std.specs.Prelude.{◌≡◌, ℕ, ◌<◌, ◌^◌, length, take, IfOk, OnOk, Bool};
-ghost use Rattle.sat_solver.specs.Literals.{has};
-ghost use Rattle.sat_solver.specs.Resolving.{IsApart, in_clause, Reaches, IsGiven, IsLeft, IsClear, Covers};
-ghost use Rattle.sat_solver.specs.Watching.{clause, IsFalse, AtRest};
+ghost use Rattle.unit_propagation.specs.Literals.{has};
+ghost use Rattle.unit_propagation.specs.Trails.{IsApart};
+ghost use Rattle.sat_solver.specs.Resolving.{in_clause, Reaches, IsGiven, IsLeft, IsClear, Covers};
+ghost use Rattle.unit_propagation.specs.Watching.{clause, IsFalse, AtRest};
 
 use crate::analyze::{Resolvent, Span, cut, is_marked, join, to_last_literal};
 use crate::plan::Graph;
-use crate::store::Store;
-use crate::trail::Trail;
 use rh_base::NoMemory;
+use unit_propagation::{Store, Trail};
 
 /// Resolves the opposite of the literal at a place away, where it is in the resolvent and a clause gave that literal.
 fn resolve_away_at(

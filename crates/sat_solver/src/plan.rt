@@ -6,10 +6,9 @@
 
 ghost use Rattle.std.specs.Prelude.{◌≡◌};
 
-use crate::store::Store;
-use crate::trail::Trail;
 use rh_base::NoMemory;
 use std::alloc::Global;
+use unit_propagation::{Store, Trail};
 
 /// How many looks at a reason one plan takes at most.
 const PATIENCE: u32 = 300;

@@ -6,25 +6,22 @@
 ghost use Rattle.std.specs.Prelude.{◌≡◌, ℕ, ◌+◌, ◌-◌, ◌*◌, ◌<◌, ◌≤◌, ◌^◌, true, false, [], length, IfOk, OnOk, None, Some, slice_index_or};
 ghost use Rattle.cnf.specs.Formulas.{Satisfies, valuation_of};
 ghost use Rattle.cnf.specs.Proofs.{IsAccepted};
-ghost use Rattle.sat_solver.specs.Literals.{has};
+ghost use Rattle.unit_propagation.specs.Literals.{has};
 ghost use Rattle.sat_solver.specs.Meaning.{IsBlank};
 ghost use Rattle.sat_solver.specs.Solving.{IsLoaded};
-ghost use Rattle.sat_solver.specs.Turning.{IsState, InConflict, IsAtRest, IsUnsatisfied, Propagates, IsSameTask, IsFull, Turns, Finds};
+ghost use Rattle.sat_solver.specs.Turning.{IsState, InConflict, IsAtRest, IsUnsatisfied, Propagates, IsSameTask, Turns, Finds};
+ghost use Rattle.unit_propagation.specs.Trails.{IsFull};
 
-use crate::activity::Activity;
 use crate::analyze::Resolvent;
-use crate::decide::next_literal;
 use crate::derive::{derive, refuted};
 use crate::learn::{assert_learned, restart};
 use crate::load::load;
-use crate::propagate::Propagator;
 use crate::restarts::Restarts;
-use crate::store::Store;
-use crate::trail::Trail;
-use crate::watches::Watches;
 use cnf::{Cnf, Lit, Log, Step};
+use decision_order::{Activity, next_literal};
 use rh_base::{NoMemory, Seq};
 use std::alloc::Global;
+use unit_propagation::{Propagator, Store, Trail, Watches};
 
 /// What the search finds.
 #[derive(Debug, Drop)]

@@ -1,6 +1,6 @@
 use Rattle.std.proofs.Common.{◌≡◌, ◌⊎◌, ℕ, ◌/◌, Bool, true, false, List, take, refl, sym, ap, ◌∙◌, subst, arith}
 use Rattle.std.proofs.Math.ListN.{set}
-use Rattle.sat_solver.specs.Literals.{opposite, has}
+use Rattle.unit_propagation.specs.Literals.{opposite, has}
 use Rattle.sat_solver.specs.Resolving.{IsMarked}
 use Rattle.sat_solver.proofs.Passing.{unmarked}
 use Rattle.sat_solver.proofs.Covering.{covers_less}

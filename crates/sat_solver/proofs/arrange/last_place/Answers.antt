@@ -1,6 +1,6 @@
 use Rattle.std.proofs.Common.{ap, ◌∙◌, arith}
-use Rattle.sat_solver.specs.Literals.{has}
-use Rattle.sat_solver.proofs.Marks.{has_at}
+use Rattle.unit_propagation.specs.Literals.{has}
+use Rattle.unit_propagation.proofs.Marks.{has_at}
 use Rattle.sat_solver.proofs.arrange.last_place.Goals as goal
 
 pub is_later-later-requires-clause-below : goal.is_later-later-requires-clause-below

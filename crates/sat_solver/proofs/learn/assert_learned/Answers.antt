@@ -1,6 +1,7 @@
 use Rattle.std.proofs.Common.{◌≡◌, ◌+◌, ◌-◌, length, arith, sym, subst}
-use Rattle.sat_solver.specs.Trails.{Way}
-use Rattle.sat_solver.specs.Watching.{IsReady, IsAddable}
+use Rattle.unit_propagation.specs.Trails.{Way}
+use Rattle.unit_propagation.specs.Watching.{IsReady}
+use Rattle.sat_solver.specs.Learned.{IsAddable}
 use Rattle.sat_solver.proofs.Backjumping.{false_below, ready_back, addable_back}
 use Rattle.sat_solver.proofs.learn.assert_learned.Goals as goal
 

@@ -1,5 +1,5 @@
 use Rattle.std.proofs.Common.{ℕ, List, sym, subst, arith}
-use Rattle.sat_solver.specs.Watching.{IsSound}
+use Rattle.unit_propagation.specs.Watching.{IsSound}
 use Rattle.sat_solver.proofs.Loading.{sound_grown}
 use Rattle.sat_solver.proofs.load.load_clause.Goals as goal
 

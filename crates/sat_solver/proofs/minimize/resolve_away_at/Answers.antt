@@ -1,7 +1,7 @@
-use Rattle.std.proofs.Common.{◌≡◌, inl, inr, ℕ, ◌-◌, ◌/◌, Bool, true, false, List, length, get_or, refl, sym, ap, ◌∙◌, subst, arith}
+use Rattle.std.proofs.Common.{◌≡◌, inl, inr, ℕ, ◌/◌, Bool, true, false, List, length, get_or, refl, sym, ap, ◌∙◌, subst, arith}
 use Rattle.std.proofs.Math.ListN.{length-set}
-use Rattle.sat_solver.specs.Literals.{opposite, has}
-use Rattle.sat_solver.specs.Watching.{clause}
+use Rattle.unit_propagation.specs.Literals.{opposite, has}
+use Rattle.unit_propagation.specs.Watching.{clause}
 use Rattle.sat_solver.specs.Resolving.{is_seen}
 use Rattle.sat_solver.proofs.Counts.{count_empty}
 use Rattle.sat_solver.proofs.Arranges.{has_less}

@@ -1,6 +1,6 @@
 use Rattle.std.proofs.Common.{refl, sym, subst, ap, ◌∙◌}
-use Rattle.sat_solver.specs.Trails.{Way}
-use Rattle.sat_solver.specs.Watching.{IsReady}
+use Rattle.unit_propagation.specs.Trails.{Way}
+use Rattle.unit_propagation.specs.Watching.{IsReady}
 use Rattle.sat_solver.proofs.Deciding.{decided}
 use Rattle.sat_solver.proofs.solver.Solver.decide.Goals as goal
 

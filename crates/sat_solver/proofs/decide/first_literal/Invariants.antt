@@ -1,5 +1,0 @@
-use Rattle.std.proofs.Common.{length, ◌-◌}
-use Rattle.sat_solver.proofs.decide.first_literal.Given as goal
-
-abbrev pub decreases-first : goal.decreases-first
-decreases-first l = length l.activity.firsts.items - l.activity.passed

@@ -1,0 +1,5 @@
+pub mod Literals
+pub mod Stored
+pub mod Trails
+pub mod Watching
+pub mod Visits
