@@ -11,13 +11,13 @@ ghost use Rattle.unit_propagation.specs.Watching.{IsStopped, IsSound, IsFalse};
 ghost use Rattle.sat_solver.specs.Working.{IsNew};
 ghost use Rattle.sat_solver.specs.Meaning.{link_of, IsStoreOf, IsDerived, IsLearnable, IsBlank};
 
-use crate::analyze::{Resolution, Resolvent, collect, refute};
+use crate::analyze::{Resolution, Resolvent};
 use crate::arrange::put_last_second;
-use crate::minimize::analyze;
+use crate::graph::ImplicationGraph;
 use cnf::{Clause, Link, Lit, Step};
 use rh_base::{NoMemory, Seq};
 use std::alloc::Global;
-use unit_propagation::{Store, Trail, Watches, opposite};
+use unit_propagation::{Propagator, opposite};
 
 /// The literal that has this index.
 fn lit_of(literal: u32) -> Lit
@@ -81,69 +81,81 @@ fn step_of(
     })
 }
 
-/// Begins anew, where nothing is marked.
-fn reset(r: &mut Resolvent)
-    ensures seen { r.new.seen ≡ r.old.seen }
-    ensures marked { r.new.marked.items ≡ [] }
-    ensures resolutions { r.new.resolutions.items ≡ [] }
-    ensures none { r.new.pending ≡ 0 }
-{
-    r.marked.clear();
-    r.resolutions.clear();
-    r.pending = 0;
-}
+impl Resolvent {
+    /// Begins anew, where nothing is marked.
+    fn reset(&mut self)
+        ensures seen { self.new.seen ≡ self.old.seen }
+        ensures marked { self.new.marked.items ≡ [] }
+        ensures resolutions { self.new.resolutions.items ≡ [] }
+        ensures none { self.new.pending ≡ 0 }
+    {
+        self.marked.clear();
+        self.resolutions.clear();
+        self.pending = 0;
+    }
 
-/// The literals of the clause to learn from a clause that is false, and its step.
-pub(crate) fn derive(
-    alloc: Global,
-    r: &mut Resolvent,
-    store: &Store,
-    trail: &Trail,
-    _watches: &Watches,
-    conflict: u32,
-) -> Result<(Vec<u32>, Step), NoMemory>
-    requires stopped { IsStopped store.now trail.now _watches.now conflict }
-    requires decided { 0 < length trail.now.starts }
-    requires blank { IsBlank trail.now.vars r.old.seen.items }
-    ensures blank { OnOk result (IsBlank trail.now.vars r.new.seen.items) }
-    ensures learnable { IfOk result (λ out. (last : ℕ) → last + 1 ≡ length trail.now.starts → IsLearnable trail.now last out.0.items) }
-    ensures derived { IfOk result (λ out. (earlier : List (List Lit)) → IsStoreOf store.now earlier
-        → IsDerived earlier out.0.items out.1) }
-    ensures fresh { IfOk result (λ out. (earlier : List (List Lit)) → IsStoreOf store.now earlier → IsNew earlier out.1.clause) }
-{
-    reset(r);
-    let _limit = trail.len();
-    let last = trail.level() - 1;
-    let boundary = trail.start(last);
-    let place = analyze(r, store, trail, boundary, conflict)?;
-    let first = opposite(trail.literal(place));
-    let mut literals = Vec::new(alloc);
-    collect(r, trail, first, &mut literals)?;
-    put_last_second(&mut literals, trail);
-    let step = step_of(alloc, conflict, &r.resolutions, &literals)?;
-    Ok((literals, step))
-}
+    /// The literals of the clause to learn from a clause that is false, and its step.
+    pub(crate) fn derive(
+        &mut self,
+        alloc: Global,
+        propagator: &Propagator,
+        conflict: u32,
+    ) -> Result<(Vec<u32>, Step), NoMemory>
+        requires stopped { IsStopped propagator.now.store propagator.now.trail propagator.now.watches conflict }
+        requires decided { 0 < length propagator.now.trail.starts }
+        requires blank { IsBlank propagator.now.trail.vars self.old.seen.items }
+        ensures blank { OnOk result (IsBlank propagator.now.trail.vars self.new.seen.items) }
+        ensures learnable { IfOk result (λ out. (last : ℕ) → last + 1 ≡ length propagator.now.trail.starts
+            → IsLearnable propagator.now.trail last out.0.items) }
+        ensures derived { IfOk result (λ out. (earlier : List (List Lit)) → IsStoreOf propagator.now.store earlier
+            → IsDerived earlier out.0.items out.1) }
+        ensures fresh { IfOk result (λ out. (earlier : List (List Lit)) → IsStoreOf propagator.now.store earlier
+            → IsNew earlier out.1.clause) }
+    {
+        self.reset();
+        let trail = &propagator.trail;
+        let _limit = trail.len();
+        let last = trail.level() - 1;
+        let boundary = trail.start(last);
+        let graph = ImplicationGraph {
+            store: &propagator.store,
+            trail,
+            boundary,
+        };
+        let place = self.analyze(&graph, conflict)?;
+        self.minimize(&graph)?;
+        let first = opposite(trail.literal(place));
+        let mut literals = Vec::new(alloc);
+        self.collect(trail, first, &mut literals)?;
+        put_last_second(&mut literals, trail);
+        let step = step_of(alloc, conflict, &self.resolutions, &literals)?;
+        Ok((literals, step))
+    }
 
-/// The step with the empty clause, from a clause that is false ahead of all decisions.
-pub(crate) fn refuted(
-    alloc: Global,
-    r: &mut Resolvent,
-    store: &Store,
-    trail: &Trail,
-    _watches: &Watches,
-    conflict: u32,
-) -> Result<Step, NoMemory>
-    requires sound { IsSound store.now trail.now _watches.now }
-    requires is_false { IsFalse store.now trail.now.literals conflict }
-    requires level { trail.now.starts ≡ [] }
-    requires blank { IsBlank trail.now.vars r.old.seen.items }
-    ensures right { IfOk result (λ s. (earlier : List (List Lit)) → IsStoreOf store.now earlier → IsRight earlier s) }
-    ensures empty { IfOk result (λ s. s.clause ≡ []) }
-{
-    reset(r);
-    let _limit = trail.len();
-    refute(r, store, trail, conflict)?;
-    let none = Vec::new(alloc);
-    let step = step_of(alloc, conflict, &r.resolutions, &none)?;
-    Ok(step)
+    /// The step with the empty clause, from a clause that is false ahead of all decisions.
+    pub(crate) fn derive_empty(
+        &mut self,
+        alloc: Global,
+        propagator: &Propagator,
+        conflict: u32,
+    ) -> Result<Step, NoMemory>
+        requires sound { IsSound propagator.now.store propagator.now.trail propagator.now.watches }
+        requires is_false { IsFalse propagator.now.store propagator.now.trail.literals conflict }
+        requires level { propagator.now.trail.starts ≡ [] }
+        requires blank { IsBlank propagator.now.trail.vars self.old.seen.items }
+        ensures right { IfOk result (λ s. (earlier : List (List Lit)) → IsStoreOf propagator.now.store earlier → IsRight earlier s) }
+        ensures empty { IfOk result (λ s. s.clause ≡ []) }
+    {
+        self.reset();
+        let _limit = propagator.trail.len();
+        let graph = ImplicationGraph {
+            store: &propagator.store,
+            trail: &propagator.trail,
+            boundary: 0,
+        };
+        self.refute(&graph, conflict)?;
+        let none = Vec::new(alloc);
+        let step = step_of(alloc, conflict, &self.resolutions, &none)?;
+        Ok(step)
+    }
 }

@@ -2,158 +2,104 @@
 //! reason, which is one more resolution of the step. So the log needs no rule of its own for it. Only literals that became false ahead
 //! of the last level are resolved away; that of the first unique implication point stays.
 
-ghost use Rattle.std.specs.Prelude.{◌≡◌, ℕ, ◌<◌, ◌^◌, length, take, IfOk, OnOk, Bool};
-ghost use Rattle.unit_propagation.specs.Literals.{has};
-ghost use Rattle.unit_propagation.specs.Trails.{IsApart};
-ghost use Rattle.sat_solver.specs.Resolving.{in_clause, Reaches, IsGiven, IsLeft, IsClear, Covers};
-ghost use Rattle.unit_propagation.specs.Watching.{clause, IsFalse, AtRest};
+ghost use Rattle.std.specs.Prelude.{◌≡◌, ℕ, ◌<◌, length, OnOk};
+ghost use Rattle.sat_solver.specs.Analyzing.{IsImplicationGraph, IsIdle, Shrinks, IsAnalyzed};
 
-use crate::analyze::{Resolvent, Span, cut, is_marked, join, to_last_literal};
-use crate::plan::Graph;
+use crate::analyze::{Resolvent, is_marked};
+use crate::graph::ImplicationGraph;
+use crate::plan::MarkedGraph;
 use rh_base::NoMemory;
-use unit_propagation::{Store, Trail};
 
-/// Resolves the opposite of the literal at a place away, where it is in the resolvent and a clause gave that literal.
-fn resolve_away_at(
-    r: &mut Resolvent,
-    store: &Store,
-    trail: &Trail,
-    boundary: usize,
-    place: usize,
-) -> Result<(), NoMemory>
-    requires apart { IsApart trail.now.literals }
-    requires short { length trail.now.literals < 2 ^ 32 }
-    requires early { place < boundary }
-    requires within { place < length trail.now.literals }
-    requires idle { r.old.pending ≡ 0 }
-    requires long { length r.old.seen.items ≡ trail.now.vars }
-    requires reasons { IsGiven store.now trail.now boundary }
-    ensures idle { OnOk result (r.new.pending ≡ 0) }
-    ensures long { OnOk result (length r.new.seen.items ≡ trail.now.vars) }
-    ensures left { OnOk result ((p : ℕ) → IsLeft trail.now.literals boundary p r.old.seen.items
-        → IsLeft trail.now.literals boundary p r.new.seen.items) }
-    ensures covered { OnOk result (Covers trail.now.literals r.old.seen.items r.old.marked.items
-        → Covers trail.now.literals r.new.seen.items r.new.marked.items) }
-    ensures leads { OnOk result ((c : ℕ → Bool)
-        → Reaches store.now c r.old.resolutions.items (in_clause trail.now.literals r.old.seen.items)
-        → Reaches store.now c r.new.resolutions.items (in_clause trail.now.literals r.new.seen.items)) }
-{
-    let literal = trail.literal(place);
-    let seen = is_marked(&r.seen, literal);
-    if !seen {
-        return Ok(());
-    }
-    let Some(reason) = trail.reason(place) else {
-        return Ok(());
-    };
-    let end = trail.len();
-    cut(r, literal, reason)?;
-    let span = Span {
-        boundary: end,
-        limit: end,
-    };
-    join(r, store.clause(reason), literal, trail, span)?;
-    Ok(())
-}
-
-/// Resolves a literal away, where it is in the resolvent, became false ahead of the last level, and a clause gave its
-/// opposite.
-fn resolve_away(
-    r: &mut Resolvent,
-    store: &Store,
-    trail: &Trail,
-    boundary: usize,
-    literal: u32,
-) -> Result<(), NoMemory>
-    requires apart { IsApart trail.now.literals }
-    requires short { length trail.now.literals < 2 ^ 32 }
-    requires idle { r.old.pending ≡ 0 }
-    requires long { length r.old.seen.items ≡ trail.now.vars }
-    requires reasons { IsGiven store.now trail.now boundary }
-    ensures idle { OnOk result (r.new.pending ≡ 0) }
-    ensures long { OnOk result (length r.new.seen.items ≡ trail.now.vars) }
-    ensures left { OnOk result ((p : ℕ) → IsLeft trail.now.literals boundary p r.old.seen.items
-        → IsLeft trail.now.literals boundary p r.new.seen.items) }
-    ensures covered { OnOk result (Covers trail.now.literals r.old.seen.items r.old.marked.items
-        → Covers trail.now.literals r.new.seen.items r.new.marked.items) }
-    ensures leads { OnOk result ((c : ℕ → Bool)
-        → Reaches store.now c r.old.resolutions.items (in_clause trail.now.literals r.old.seen.items)
-        → Reaches store.now c r.new.resolutions.items (in_clause trail.now.literals r.new.seen.items)) }
-{
-    let Some(place) = trail.place_ahead(literal, boundary) else {
-        return Ok(());
-    };
-    resolve_away_at(r, store, trail, boundary, place)
-}
-
-/// Resolves away what the plan found to be redundant.
-fn shrink(r: &mut Resolvent, store: &Store, trail: &Trail, boundary: usize) -> Result<(), NoMemory>
-    requires apart { IsApart trail.now.literals }
-    requires short { length trail.now.literals < 2 ^ 32 }
-    requires idle { r.old.pending ≡ 0 }
-    requires long { length r.old.seen.items ≡ trail.now.vars }
-    requires reasons { IsGiven store.now trail.now boundary }
-    ensures long { OnOk result (length r.new.seen.items ≡ trail.now.vars) }
-    ensures left { OnOk result ((p : ℕ) → IsLeft trail.now.literals boundary p r.old.seen.items
-        → IsLeft trail.now.literals boundary p r.new.seen.items) }
-    ensures covered { OnOk result (Covers trail.now.literals r.old.seen.items r.old.marked.items
-        → Covers trail.now.literals r.new.seen.items r.new.marked.items) }
-    ensures leads { OnOk result ((c : ℕ → Bool)
-        → Reaches store.now c r.old.resolutions.items (in_clause trail.now.literals r.old.seen.items)
-        → Reaches store.now c r.new.resolutions.items (in_clause trail.now.literals r.new.seen.items)) }
-{
-    'redundant: for _literal in 0..r.plan.len() {
-        match r.plan.pop() {
-            Some(literal) => resolve_away(r, store, trail, boundary, literal)?,
-            None => {}
+impl Resolvent {
+    /// Resolves the opposite of the literal at a place away, where it is in the resolvent and a clause gave that literal.
+    #[tactic(auto, using(crate::proofs::Analyzing::shrinks_same))]
+    fn resolve_away_at(
+        &mut self,
+        graph: &ImplicationGraph<'_>,
+        place: usize,
+    ) -> Result<(), NoMemory>
+        requires graph { IsImplicationGraph graph.now }
+        requires early { place < graph.now.boundary }
+        requires within { place < length graph.now.trail.now.literals }
+        requires idle { IsIdle graph.now self.old }
+        ensures idle { OnOk result (IsIdle graph.now self.new) }
+        ensures shrinks { OnOk result (Shrinks graph.now self.old self.new) }
+    {
+        let literal = graph.trail.literal(place);
+        let seen = is_marked(&self.seen, literal);
+        if !seen {
+            return Ok(());
         }
+        let Some(reason) = graph.trail.reason(place) else {
+            return Ok(());
+        };
+        let end = graph.trail.len();
+        self.cut(literal, reason)?;
+        let ground = ImplicationGraph {
+            store: graph.store,
+            trail: graph.trail,
+            boundary: end,
+        };
+        self.join(&ground, end, graph.store.clause(reason), literal)?;
+        Ok(())
     }
-    Ok(())
-}
 
-/// Plans which literals are resolved away.
-fn plan(r: &mut Resolvent, store: &Store, trail: &Trail, boundary: usize) -> Result<(), NoMemory>
-    ensures seen { r.new.seen ≡ r.old.seen }
-    ensures marked { r.new.marked ≡ r.old.marked }
-    ensures resolutions { r.new.resolutions ≡ r.old.resolutions }
-    ensures idle { r.new.pending ≡ 0 }
-{
-    r.pending = 0;
-    r.met = r.marked.len();
-    let graph = Graph {
-        store,
-        trail,
-        seen: &r.seen,
-        boundary,
-    };
-    r.plan.make(&graph, &r.marked)
-}
+    /// Resolves a literal away, where it is in the resolvent, became false ahead of the last level, and a clause gave its
+    /// opposite.
+    #[tactic(auto, using(crate::proofs::Analyzing::shrinks_same))]
+    fn resolve_away(&mut self, graph: &ImplicationGraph<'_>, literal: u32) -> Result<(), NoMemory>
+        requires graph { IsImplicationGraph graph.now }
+        requires idle { IsIdle graph.now self.old }
+        ensures idle { OnOk result (IsIdle graph.now self.new) }
+        ensures shrinks { OnOk result (Shrinks graph.now self.old self.new) }
+    {
+        let Some(place) = graph.trail.place_ahead(literal, graph.boundary) else {
+            return Ok(());
+        };
+        self.resolve_away_at(graph, place)
+    }
 
-/// Resolves a clause that is false to one that has one literal of the last level, and makes it smaller; where the opposite of
-/// that literal stands.
-pub(crate) fn analyze(
-    r: &mut Resolvent,
-    store: &Store,
-    trail: &Trail,
-    boundary: usize,
-    conflict: u32,
-) -> Result<usize, NoMemory>
-    requires apart { IsApart trail.now.literals }
-    requires short { length trail.now.literals < 2 ^ 32 }
-    requires fits { boundary < length trail.now.literals }
-    requires clear { IsClear trail.now.vars r.old.seen.items r.old.marked.items r.old.pending r.old.resolutions.items }
-    requires is_false { IsFalse store.now trail.now.literals conflict }
-    requires rested { AtRest store.now (take boundary trail.now.literals) }
-    requires reasons { IsGiven store.now trail.now boundary }
-    ensures left { IfOk result (λ p. IsLeft trail.now.literals boundary p r.new.seen.items) }
-    ensures long { OnOk result (length r.new.seen.items ≡ trail.now.vars) }
-    ensures covered { OnOk result (Covers trail.now.literals r.new.seen.items r.new.marked.items) }
-    ensures leads { OnOk result
-        (Reaches store.now (has (clause store.now conflict)) r.new.resolutions.items
-        (in_clause trail.now.literals r.new.seen.items)) }
-{
-    let place = to_last_literal(r, store, trail, boundary, conflict)?;
-    plan(r, store, trail, boundary)?;
-    shrink(r, store, trail, boundary)?;
-    Ok(place)
+    /// Resolves away what the plan found to be redundant.
+    #[tactic(auto, using(crate::proofs::Analyzing::shrinks_same))]
+    fn shrink(&mut self, graph: &ImplicationGraph<'_>) -> Result<(), NoMemory>
+        requires graph { IsImplicationGraph graph.now }
+        requires idle { IsIdle graph.now self.old }
+        ensures idle { OnOk result (IsIdle graph.now self.new) }
+        ensures shrinks { OnOk result (Shrinks graph.now self.old self.new) }
+    {
+        'redundant: for _literal in 0..self.plan.len() {
+            match self.plan.pop() {
+                Some(literal) => self.resolve_away(graph, literal)?,
+                None => {}
+            }
+        }
+        Ok(())
+    }
+
+    /// Plans which literals are resolved away.
+    fn look_ahead(&mut self, graph: &ImplicationGraph<'_>) -> Result<(), NoMemory>
+        ensures seen { self.new.seen ≡ self.old.seen }
+        ensures marked { self.new.marked ≡ self.old.marked }
+        ensures resolutions { self.new.resolutions ≡ self.old.resolutions }
+        ensures idle { self.new.pending ≡ 0 }
+    {
+        self.pending = 0;
+        self.met = self.marked.len();
+        let graph = MarkedGraph {
+            graph: *graph,
+            seen: &self.seen,
+        };
+        self.plan.make(&graph, &self.marked)
+    }
+
+    /// Makes the resolvent smaller; what analysis found still holds.
+    pub(crate) fn minimize(&mut self, graph: &ImplicationGraph<'_>) -> Result<(), NoMemory>
+        requires graph { IsImplicationGraph graph.now }
+        requires long { length self.old.seen.items ≡ graph.now.trail.now.vars }
+        ensures { OnOk result ((conflict p : ℕ) → IsAnalyzed graph.now conflict self.old p → IsAnalyzed graph.now conflict self.new p) }
+    {
+        self.look_ahead(graph)?;
+        self.shrink(graph)?;
+        Ok(())
+    }
 }

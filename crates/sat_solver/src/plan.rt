@@ -6,9 +6,9 @@
 
 ghost use Rattle.std.specs.Prelude.{◌≡◌};
 
+use crate::graph::ImplicationGraph;
 use rh_base::NoMemory;
 use std::alloc::Global;
-use unit_propagation::{Store, Trail};
 
 /// How many looks at a reason one plan takes at most.
 const PATIENCE: u32 = 300;
@@ -29,14 +29,11 @@ struct Visit {
     next: usize,
 }
 
-/// What a plan is made for: the implication graph as the trail and the clauses have it, the marks of the resolvent, and where the
-/// last level begins.
+/// What a plan is made for: the implication graph, and the marks of the resolvent.
 #[derive(Clone, Copy)]
-pub(crate) struct Graph<'g> {
-    pub store: &'g Store,
-    pub trail: &'g Trail,
+pub(crate) struct MarkedGraph<'g> {
+    pub graph: ImplicationGraph<'g>,
     pub seen: &'g [bool],
-    pub boundary: usize,
 }
 
 /// What a look at a reason says.
@@ -59,7 +56,7 @@ pub(crate) struct Plan {
     patience: u32,
 }
 
-impl Graph<'_> {
+impl MarkedGraph<'_> {
     /// Whether the variable of a literal is marked.
     #[inline]
     fn is_marked(&self, literal: u32) -> bool {
@@ -70,7 +67,7 @@ impl Graph<'_> {
     /// The clause that gave the opposite of a literal ahead of the last level.
     #[inline]
     fn reason(&self, literal: u32) -> Option<u32> {
-        self.trail.given(literal, self.boundary)
+        self.graph.trail.given(literal, self.graph.boundary)
     }
 }
 
@@ -125,14 +122,14 @@ impl Plan {
     }
 
     /// Looks at a reason until a literal has to be looked at first, or one is in the way.
-    fn look(&self, graph: &Graph<'_>, visit: Visit) -> Look {
+    fn look(&self, graph: &MarkedGraph<'_>, visit: Visit) -> Look {
         let Some(reason) = graph.reason(visit.literal) else {
             return Look::Needed;
         };
-        if reason as usize >= graph.store.count() {
+        if reason as usize >= graph.graph.store.count() {
             return Look::Needed;
         }
-        let lits = graph.store.clause(reason);
+        let lits = graph.graph.store.clause(reason);
         'lits: for k in visit.next..lits.len() {
             let literal = lits[k];
             if literal / 2 == visit.literal / 2 {
@@ -162,7 +159,7 @@ impl Plan {
     }
 
     /// Goes on with the last literal that is looked at.
-    fn go_on(&mut self, graph: &Graph<'_>, visit: Visit) -> Result<(), NoMemory> {
+    fn go_on(&mut self, graph: &MarkedGraph<'_>, visit: Visit) -> Result<(), NoMemory> {
         match self.look(graph, visit) {
             Look::Redundant => {
                 self.conclude(visit.literal, Redundancy::Redundant)?;
@@ -181,7 +178,7 @@ impl Plan {
     }
 
     /// Looks at a literal, and at those that come first, while there is patience.
-    fn walk(&mut self, graph: &Graph<'_>, literal: u32) -> Result<(), NoMemory> {
+    fn walk(&mut self, graph: &MarkedGraph<'_>, literal: u32) -> Result<(), NoMemory> {
         self.path.clear();
         self.path.push(Visit { literal, next: 0 })?;
         'walk: for _look in 0..self.patience {
@@ -195,7 +192,7 @@ impl Plan {
     }
 
     /// Finds which of the marked literals are redundant that became false ahead of a place.
-    pub(crate) fn make(&mut self, graph: &Graph<'_>, marked: &[u32]) -> Result<(), NoMemory> {
+    pub(crate) fn make(&mut self, graph: &MarkedGraph<'_>, marked: &[u32]) -> Result<(), NoMemory> {
         self.forget();
         'marked: for literal in marked {
             let is_unknown = matches!(self.redundancy(*literal), Redundancy::Unknown)

@@ -13,7 +13,6 @@ ghost use Rattle.sat_solver.specs.Turning.{IsState, InConflict, IsAtRest, IsUnsa
 ghost use Rattle.unit_propagation.specs.Trails.{IsFull};
 
 use crate::analyze::Resolvent;
-use crate::derive::{derive, refuted};
 use crate::learn::{assert_learned, restart};
 use crate::load::load;
 use crate::restarts::Restarts;
@@ -127,14 +126,7 @@ impl<'f> Solver<'f> {
         ensures state { OnOk result (IsState self.new) }
         ensures more { OnOk result (length self.new.steps ≡ length self.old.steps + 1) }
     {
-        let (literals, step) = derive(
-            alloc,
-            &mut self.resolvent,
-            &self.propagator.store,
-            &self.propagator.trail,
-            &self.propagator.watches,
-            conflict,
-        )?;
+        let (literals, step) = self.resolvent.derive(alloc, &self.propagator, conflict)?;
         assert_learned(
             &mut self.propagator.store,
             &mut self.propagator.trail,
@@ -154,14 +146,9 @@ impl<'f> Solver<'f> {
         ensures accepted { OnOk result (IsAccepted self.new.formula.now self.new.steps) }
         ensures more { OnOk result (length self.new.steps ≡ length self.old.steps + 1) }
     {
-        let step = refuted(
-            alloc,
-            &mut self.resolvent,
-            &self.propagator.store,
-            &self.propagator.trail,
-            &self.propagator.watches,
-            conflict,
-        )?;
+        let step = self
+            .resolvent
+            .derive_empty(alloc, &self.propagator, conflict)?;
         self.steps.push(step)?;
         Ok(())
     }
@@ -330,14 +317,9 @@ impl<'f> Solver<'f> {
         ensures accepted { OnOk result (IsAccepted self.new.formula.now self.new.steps) }
         ensures one { OnOk result (length self.new.steps ≡ 1) }
     {
-        let step = refuted(
-            alloc,
-            &mut self.resolvent,
-            &self.propagator.store,
-            &self.propagator.trail,
-            &self.propagator.watches,
-            conflict,
-        )?;
+        let step = self
+            .resolvent
+            .derive_empty(alloc, &self.propagator, conflict)?;
         self.steps.push(step)?;
         Ok(())
     }
