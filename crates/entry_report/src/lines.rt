@@ -1,33 +1,30 @@
 //! The lines on an entry that is wanted.
 
-ghost use Rattle.std.specs.Prelude.{◌≡◌, ◌++◌, length, map, IfOk, OnOk};
-ghost use Rattle.fs_lang.specs.Meaning.{program_of};
+ghost use Rattle.std.specs.Prelude.{◌≡◌, ◌++◌, length, IfOk, OnOk};
+ghost use Rattle.plans.specs.Plans.{meant_by};
 ghost use Rattle.entry_report.specs.Lines.{ensured_text, missed_of, known_lines, question_name, spent_late_text};
 ghost use Rattle.verdict_report.specs.Lines.{last_line};
 ghost use Rattle.entry_report.specs.Steps.{HasRun};
 
 use ensured_entry::Late;
-use fs_lang::Program;
 use order_encode::Witness;
-use rh_base::{NoMemory, Seq, Text};
+use rh_base::{NoMemory, Seq};
 use std::alloc::Global;
 use verdict::Ends;
-use verdict_report::{push_head, push_last, push_run};
+use verdict_report::{NamedPlan, begun, push_last, push_run};
 use verdict_text::{push_bytes, push_tree};
 
 /// The lines where each run that ends leaves the entry.
 pub fn ensured_text(
     alloc: Global,
-    n: usize,
-    notes: &[u8],
+    named: &NamedPlan<'_>,
     pruned: u32,
     end: &Ends,
 ) -> Result<Seq<u8>, NoMemory>
-    ensures { IfOk result (λ text. text ≡ ensured_text n notes.now pruned (last_line end.now)) }
+    ensures { IfOk result (λ text. text ≡ ensured_text (length named.now.plan.now.programs.now) named.now.notes.now pruned
+        (last_line end.now)) }
 {
-    let mut bytes = Vec::new(alloc);
-    push_head(alloc, n, notes, pruned, &mut bytes)?;
-    push_bytes(b"deterministic\nensured\n", &mut bytes)?;
+    let mut bytes = begun(alloc, named, pruned, b"deterministic\nensured\n")?;
     push_last(end, &mut bytes)?;
     Ok(Seq::from_vec(bytes))
 }
@@ -35,25 +32,21 @@ pub fn ensured_text(
 /// The lines on a run that ends without the entry.
 pub fn missed_text(
     alloc: Global,
-    names: &[Text],
-    programs: &[Program],
-    notes: &[u8],
+    named: &NamedPlan<'_>,
     pruned: u32,
     witness: &Witness,
 ) -> Result<Seq<u8>, NoMemory>
-    requires named { HasRun (length names.now) witness.now }
-    requires places { HasRun (length programs.now) witness.now }
-    ensures { IfOk result (λ text. text ≡ missed_of names.now (map program_of programs.now) notes.now pruned witness.now) }
+    requires { HasRun (length named.now.names.now) witness.now }
+    ensures { IfOk result (λ text. text ≡ missed_of named.now.names.now (meant_by named.now.plan.now)
+        named.now.notes.now pruned witness.now) }
 {
     let Witness::Ends { tree, order } = witness else {
         unreachable!();
     };
     let turns = order.as_slice();
-    let mut bytes = Vec::new(alloc);
-    push_head(alloc, programs.len(), notes, pruned, &mut bytes)?;
-    push_bytes(b"deterministic\nnot ensured\n", &mut bytes)?;
+    let mut bytes = begun(alloc, named, pruned, b"deterministic\nnot ensured\n")?;
     push_tree(alloc, tree, &mut bytes)?;
-    push_run(alloc, names, programs, tree, turns, &mut bytes)?;
+    push_run(alloc, named, tree, turns, &mut bytes)?;
     Ok(Seq::from_vec(bytes))
 }
 
@@ -78,18 +71,17 @@ fn question_name(asked: &Late) -> &'static str
 /// The lines where a question's conflicts are spent.
 pub fn spent_late_text(
     alloc: Global,
-    n: usize,
-    notes: &[u8],
+    named: &NamedPlan<'_>,
     pruned: u32,
     asked: &Late,
     budget: u64,
 ) -> Result<Seq<u8>, NoMemory>
-    ensures { IfOk result (λ text. text ≡ spent_late_text n notes.now pruned asked.now budget) }
+    ensures { IfOk result (λ text. text ≡ spent_late_text (length named.now.plan.now.programs.now) named.now.notes.now pruned
+        asked.now budget) }
 {
     let name = question_name(asked);
     let line = format!(in alloc; "spent {name} {budget}\n")?;
-    let mut bytes = Vec::new(alloc);
-    push_head(alloc, n, notes, pruned, &mut bytes)?;
+    let mut bytes = begun(alloc, named, pruned, b"")?;
     push_known(asked, &mut bytes)?;
     push_bytes(line.as_str().as_bytes(), &mut bytes)?;
     Ok(Seq::from_vec(bytes))

@@ -1,8 +1,7 @@
 //! What is told of an entry that is wanted.
 
-ghost use Rattle.std.specs.Prelude.{◌≡◌, length, map, IfOk, IfErr};
+ghost use Rattle.std.specs.Prelude.{◌≡◌, length, IfOk, IfErr};
 ghost use Rattle.rh_base.specs.Refused.{IfRefused};
-ghost use Rattle.fs_lang.specs.Meaning.{program_of};
 ghost use Rattle.plans.specs.Plans.{meant_by};
 ghost use Rattle.given_entry.specs.Sizes.{IsTooLargeProbed};
 ghost use Rattle.entry_report.specs.Lines.{status_of, first_status, first_lines, lines_of};
@@ -12,14 +11,12 @@ ghost use Rattle.entry_report.specs.Told.{IsEntryTold};
 use crate::lines::{ensured_text, missed_text, spent_late_text};
 use determinism::First;
 use ensured_entry::Ensured;
-use fs_lang::Program;
 use given_entry::judge_entry_from;
-use plans::Plan;
 use question_terms::Terms;
-use rh_base::{Fault, NoMemory, Seq, Text};
+use rh_base::{Fault, NoMemory, Seq};
 use std::alloc::Global;
 use verdict::Asked;
-use verdict_report::{Report, difference_text, spent_text};
+use verdict_report::{NamedPlan, Report, difference_text, spent_text};
 use wanted_entry::Wanted;
 
 /// The status that goes with it where a graph isn't known to be deterministic.
@@ -47,25 +44,20 @@ fn status_of(answered: &Ensured) -> u8
 /// The lines where the graph isn't known to be deterministic.
 pub fn first_lines(
     alloc: Global,
-    names: &[Text],
-    programs: &[Program],
-    notes: &[u8],
+    named: &NamedPlan<'_>,
     budget: u64,
     first: &First,
 ) -> Result<Seq<u8>, NoMemory>
-    requires named { IsTellableFirst (length names.now) first.now }
-    requires places { IsTellableFirst (length programs.now) first.now }
-    ensures { IfOk result (λ text. text ≡ first_lines names.now (map program_of programs.now) notes.now budget first.now) }
+    requires { IsTellableFirst (length named.now.names.now) first.now }
+    ensures { IfOk result (λ text. text ≡ first_lines named.now.names.now (meant_by named.now.plan.now)
+        named.now.notes.now budget first.now) }
 {
     match first {
         First::Sure { .. } => unreachable!(),
-        First::Differs { pruned, witness } => {
-            difference_text(alloc, names, programs, notes, *pruned, witness)
-        }
+        First::Differs { pruned, witness } => { difference_text(alloc, named, *pruned, witness) }
         First::Spent { pruned, .. } => spent_text(
             alloc,
-            programs.len(),
-            notes,
+            named,
             *pruned,
             &Asked::Deterministic,
             budget,
@@ -76,37 +68,23 @@ pub fn first_lines(
 /// The lines on an answer.
 fn lines_of(
     alloc: Global,
-    names: &[Text],
-    programs: &[Program],
-    notes: &[u8],
+    named: &NamedPlan<'_>,
     budget: u64,
     answered: &Ensured,
 ) -> Result<Seq<u8>, NoMemory>
-    requires named { IsTellable (length names.now) answered.now }
-    requires places { IsTellable (length programs.now) answered.now }
-    ensures { IfOk result (λ text. text ≡ lines_of names.now (map program_of programs.now) notes.now budget answered.now) }
+    requires { IsTellable (length named.now.names.now) answered.now }
+    ensures { IfOk result (λ text. text ≡ lines_of named.now.names.now (meant_by named.now.plan.now)
+        named.now.notes.now budget answered.now) }
 {
     match answered {
-        Ensured::First(first) => first_lines(alloc, names, programs, notes, budget, first),
-        Ensured::Holds { settled, ends, .. } => ensured_text(
-            alloc,
-            programs.len(),
-            notes,
-            settled.pruned,
-            ends,
-        ),
-        Ensured::Fails { settled, witness } => missed_text(
-            alloc,
-            names,
-            programs,
-            notes,
-            settled.pruned,
-            witness,
-        ),
+        Ensured::First(first) => first_lines(alloc, named, budget, first),
+        Ensured::Holds { settled, ends, .. } => ensured_text(alloc, named, settled.pruned, ends),
+        Ensured::Fails { settled, witness } => {
+            missed_text(alloc, named, settled.pruned, witness)
+        }
         Ensured::Spent { settled, asked, .. } => spent_late_text(
             alloc,
-            programs.len(),
-            notes,
+            named,
             settled.pruned,
             asked,
             budget,
@@ -117,40 +95,35 @@ fn lines_of(
 /// An answer, as it is told.
 fn report_of(
     alloc: Global,
-    names: &[Text],
-    programs: &[Program],
-    notes: &[u8],
+    named: &NamedPlan<'_>,
     budget: u64,
     answered: &Ensured,
 ) -> Result<Report, NoMemory>
-    requires named { IsTellable (length names.now) answered.now }
-    requires places { IsTellable (length programs.now) answered.now }
-    ensures { IfOk result (IsReportOf notes.now names.now (map program_of programs.now) budget answered.now) }
+    requires { IsTellable (length named.now.names.now) answered.now }
+    ensures { IfOk result (IsReportOf named.now.notes.now named.now.names.now (meant_by named.now.plan.now) budget answered.now) }
 {
     let status = status_of(answered);
-    let text = lines_of(alloc, names, programs, notes, budget, answered)?;
+    let text = lines_of(alloc, named, budget, answered)?;
     Ok(Report { status, text })
 }
 
-/// What is told of programs in an order and an entry that is wanted. The resources have these names, and these notes stand behind
-/// their number.
+/// What is told of programs in an order and an entry that is wanted.
 pub fn told(
     alloc: Global,
     terms: &Terms,
-    notes: &[u8],
     wanted: &Wanted,
-    names: &[Text],
-    plan: &Plan<'_>,
+    named: &NamedPlan<'_>,
 ) -> Result<Report, Fault>
-    requires { length names.now ≡ plan.now.order.now.count }
-    ensures told { IfOk result (IsEntryTold terms.now notes.now wanted.now names.now (meant_by plan.now) plan.now.order.now) }
+    ensures told { IfOk result
+        (IsEntryTold terms.now named.now.notes.now wanted.now named.now.names.now (meant_by named.now.plan.now)
+        named.now.plan.now.order.now) }
     // It is refused exactly where the graph is too large to be asked about, or the domain with the entry is.
     ensures refused { IfErr result
         (λ e. IfRefused e (IsTooLargeProbed terms.now.limits terms.now.given
-        (meant_by plan.now) wanted.now)) }
+        (meant_by named.now.plan.now) wanted.now)) }
 {
-    let answered = judge_entry_from(alloc, plan, wanted, terms)?;
+    let answered = judge_entry_from(alloc, named.plan, wanted, terms)?;
     let budget = terms.budget();
-    let report = report_of(alloc, names, plan.programs, notes, budget, &answered)?;
+    let report = report_of(alloc, named, budget, &answered)?;
     Ok(report)
 }

@@ -3,5 +3,6 @@
 
 mod lines;
 mod telling;
+mod turns;
 
 pub use telling::told;

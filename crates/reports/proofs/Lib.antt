@@ -5,6 +5,7 @@ pub mod CompiledCounts
 pub mod KindLaws
 pub mod ApartLaws
 pub mod StageLaws
+pub mod SourceLaws
 pub mod ReplayLaws
 pub mod LineLaws
 pub mod QuestionLaws

@@ -1,23 +1,21 @@
 -- What is told of two manifests or two compiled catalogs that are compared, and which refusal comes first.
-use Rattle.std.specs.Prelude.{◌≡◌, ◌⊎◌, ◌<◌, ℕ, List, ◌∷◌, length, Option, Some, None}
-use Rattle.std.specs.List.{AllByRecursion}
+use Rattle.std.specs.Prelude.{◌⊎◌, ℕ, List, ◌∷◌, Option, Some, None}
 use Rattle.rh_base.specs.declared.fault.Refusal.{Refusal}
 use Rattle.fs_semantics.specs.Programs.{Program}
 use Rattle.catalog_semantics.specs.Catalogs.{Catalog}
 use Rattle.dep_graph.specs.declared.answer.Graph.{Graph}
 use Rattle.command_line.specs.declared.table.Role.TheVariants as role
-use Rattle.host_limits.specs.declared.limits.Limits.{Limits}
 use Rattle.known_inputs.specs.declared.inputs.Inputs.{Inputs}
 use Rattle.known_inputs.specs.declared.inputs.Known.{Known}
 use Rattle.compiled_text.specs.Compiled.{Compiled}
 use Rattle.command_line.specs.declared.table.Role.{Role}
-use Rattle.known_inputs.specs.Inputs.{Bytes, bytes_of, bytes_or_none, input_of, IsCompiledOf, IsKnown}
+use Rattle.known_inputs.specs.Inputs.{Bytes, bytes_of, bytes_or_none}
 use Rattle.verdict_report.specs.declared.report.Report.{Report}
 use Rattle.given_equal.specs.Sizes.{IsTooLargeJoined}
 use Rattle.equal_report.specs.Told.{IsComparedTold}
 use Rattle.reports.specs.declared.sides.Side.{Side}
 use Rattle.reports.specs.declared.sides.Side.TheVariants as side
-use Rattle.reports.specs.Stages.{node_name, IsModelled, ProgramsRefusal}
+use Rattle.reports.specs.Stages.{IsModelled, ProgramsRefusal}
 use Rattle.reports.specs.Terms.{terms_of, notes_of}
 use Rattle.reports.specs.Questions.{names_in}
 
@@ -32,19 +30,6 @@ other_inputs i = record i {
   wanted = None;
   files = (place_of_source (bytes_of role.Compiled i), bytes_or_none (bytes_of role.Other i)) ∷ i.files;
 }
-
--- a fact of each request whose input is this text and whose compiled catalog is this, whose node has this name, which has these limits,
--- and whose files say this
-abbrev pub ForSource : Option Compiled → List ℕ → List ℕ → Limits → Known → (Inputs → Type 0) → Type 0
-ForSource m text name limits k P =
-    (i : Inputs) → text ≡ input_of i → IsCompiledOf (bytes_of role.Compiled i) m → name ≡ node_name i.node
-    → limits ≡ i.limits → IsKnown i k → P i
-
--- The programs are those of the graph's resources, in their order, and these are resources of the catalog.
-pub record IsInOrder (c : Catalog) (g : Graph) (es : List Program) : Type 0 where
-  pub count : length es ≡ g.order.count
-  pub many : g.order.count ≡ length g.plain
-  pub places : AllByRecursion (λ k. k < length c.resources) g.plain
 
 -- The files beside them say this, and both manifests, or both compiled catalogs, have programs under it.
 pub record AreModelled (i : Inputs) : Type 0 where

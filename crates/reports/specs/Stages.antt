@@ -82,6 +82,19 @@ pub record IsModelled (i : Inputs) (k : Known) (m : Option Compiled) (c : Catalo
   pub planned : IsPlanned i k m c g
   pub programs : programs_in k m c g.plain ≡ Ok es
 
+-- a fact of each request whose input is this text and whose compiled catalog is this, whose node has this name, which has these limits,
+-- and whose files say this
+abbrev pub ForSource : Option Compiled → List ℕ → List ℕ → Limits → Known → (Inputs → Type 0) → Type 0
+ForSource m text name limits k P =
+    (i : Inputs) → text ≡ input_of i → IsCompiledOf (bytes_of role.Compiled i) m → name ≡ node_name i.node
+    → limits ≡ i.limits → IsKnown i k → P i
+
+-- The programs are those of the graph's resources, in their order, and these are resources of the catalog.
+pub record IsInOrder (c : Catalog) (g : Graph) (es : List Program) : Type 0 where
+  pub count : length es ≡ g.order.count
+  pub many : g.order.count ≡ length g.plain
+  pub places : AllByRecursion (λ k. k < length c.resources) g.plain
+
 -- ---- which refusal comes first
 
 -- that of the files but the manifest, and then that of the manifest or of the compiled catalog

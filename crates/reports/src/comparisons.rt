@@ -7,77 +7,24 @@ ghost use Rattle.command_line.specs.declared.table.Role.TheVariants as role;
 ghost use Rattle.known_inputs.specs.Inputs.{bytes_of, bytes_or_none, input_of, IsCompiledOf, HasNoCompiled, IsKnown};
 ghost use Rattle.given_equal.specs.Sizes.{IsTooLargeJoined};
 ghost use Rattle.equal_report.specs.Told.{IsComparedTold};
-ghost use Rattle.reports.specs.Stages.{IsModelled, ProgramsRefusal};
+ghost use Rattle.reports.specs.Stages.{IsModelled, IsInOrder, ProgramsRefusal};
 ghost use Rattle.reports.specs.Questions.{names_in};
 ghost use Rattle.reports.specs.Sides.{IfUntold};
-ghost use Rattle.reports.specs.Comparisons.{ForSource, IsInOrder, other_inputs, IsComparison, ComparisonRefusal};
+ghost use Rattle.reports.specs.Comparisons.{other_inputs, IsComparison, ComparisonRefusal};
 
-use crate::compiling::{catalog_under, node_name};
-use crate::modelling::modelled;
+use crate::compiling::node_name;
+use crate::modelling::{Modelled, model_source};
 use crate::sides::{Side, Untold, refused_in};
 use crate::terms::{Asked, asked_on};
-use crate::verdicts::names_in;
-use catalog::Catalog;
+use crate::verdicts::names_of;
 use command_line::Role;
 use compiled_text::CompiledCatalog;
-use dep_graph::{Graph, graph};
 use equal_report::told;
-use fs_lang::Program;
-use host_limits::Limits;
 use known_inputs::{Inputs, Known, compiled_of, known_inputs};
 use plans::Plan;
-use rh_base::{Fault, NoMemory, Seq, Text};
+use rh_base::Fault;
 use std::alloc::Global;
-use verdict_report::Report;
-
-/// A compiled catalog, if what is asked about is one, its catalog or that of the manifest, the graph, and what the resources do.
-#[derive(Drop)]
-struct Modelled {
-    source: Option<CompiledCatalog>,
-    catalog: Catalog,
-    plan: Graph,
-    programs: Seq<Program>,
-}
-
-/// The catalog of a compiled catalog, or else of a text, its graph and what its resources do, under what the files beside it say.
-fn model_source(
-    alloc: Global,
-    source: Option<CompiledCatalog>,
-    text: &[u8],
-    name: &str,
-    limits: Limits,
-    known: &Known,
-) -> Result<Modelled, Fault>
-    requires { length text.now < 2 ^ 32 }
-    ensures modelled { IfOk result
-        (λ m. ForSource source text.now name.now limits known.now
-        (λ i. IsModelled i known.now m.source m.catalog m.plan (map program_of m.programs))) }
-    ensures refused { IfErr result
-        (λ e. IfRefused e (λ r. ForSource source text.now name.now limits known.now (λ i. ProgramsRefusal i r))) }
-{
-    let catalog = catalog_under(alloc, &source, text, name, limits, known)?;
-    let plan = graph(alloc, &catalog)?;
-    // so the order relates no other numbers
-    plan.order.count();
-    let programs = modelled(alloc, known, &source, &catalog, &plan)?;
-    Ok(Modelled {
-        source,
-        catalog,
-        plan,
-        programs,
-    })
-}
-
-/// The references of the resources.
-fn names_of(alloc: Global, made: &Modelled) -> Result<Seq<Text>, NoMemory>
-    requires { IsInOrder made.now.catalog made.now.plan (map program_of made.now.programs) }
-    ensures names { IfOk result (λ names. names ≡ names_in made.now.catalog made.now.plan.plain) }
-    ensures count { IfOk result (λ names. length names ≡ made.now.plan.order.count) }
-{
-    let plain = made.plan.plain.as_slice();
-    let names = names_in(alloc, &made.catalog, plain)?;
-    Ok(names)
-}
+use verdict_report::{NamedPlan, Report};
 
 /// What is told of both.
 fn told_of_both(
@@ -87,40 +34,37 @@ fn told_of_both(
     left: &Modelled,
     right: &Modelled,
 ) -> Result<Report, Fault>
-    requires left { IsInOrder left.now.catalog left.now.plan (map program_of left.now.programs) }
-    requires right { IsInOrder right.now.catalog right.now.plan (map program_of right.now.programs) }
+    requires left { IsInOrder left.now.catalog left.now.graph (map program_of left.now.programs) }
+    requires right { IsInOrder right.now.catalog right.now.graph (map program_of right.now.programs) }
     ensures told { IfOk result
         (IsComparedTold asked.now.terms asked.now.notes other_asked.now.notes
-        (names_in left.now.catalog left.now.plan.plain) (map program_of left.now.programs) left.now.plan.order
-        (names_in right.now.catalog right.now.plan.plain) (map program_of right.now.programs) right.now.plan.order) }
+        (names_in left.now.catalog left.now.graph.plain) (map program_of left.now.programs) left.now.graph.order
+        (names_in right.now.catalog right.now.graph.plain) (map program_of right.now.programs) right.now.graph.order) }
     ensures refused { IfErr result
         (λ e. IfRefused e (IsTooLargeJoined asked.now.terms.limits asked.now.terms.given
         (map program_of left.now.programs) (map program_of right.now.programs))) }
 {
     let names = names_of(alloc, left)?;
     let others = names_of(alloc, right)?;
-    let shown = names.as_slice();
-    let other_shown = others.as_slice();
-    let notes = asked.notes.as_str().as_bytes();
-    let other_notes = other_asked.notes.as_str().as_bytes();
     let first = Plan {
         programs: left.programs.as_slice(),
-        order: &left.plan.order,
+        order: &left.graph.order,
     };
     let other = Plan {
         programs: right.programs.as_slice(),
-        order: &right.plan.order,
+        order: &right.graph.order,
     };
-    told(
-        alloc,
-        &asked.terms,
-        notes,
-        other_notes,
-        shown,
-        &first,
-        other_shown,
-        &other,
-    )
+    let one = NamedPlan {
+        plan: &first,
+        names: names.as_slice(),
+        notes: asked.notes.as_str().as_bytes(),
+    };
+    let second = NamedPlan {
+        plan: &other,
+        names: others.as_slice(),
+        notes: other_asked.notes.as_str().as_bytes(),
+    };
+    told(alloc, &asked.terms, &one, &second)
 }
 
 /// The bytes of the file with which the input or the compiled catalog is compared; none where it isn't named.
@@ -163,14 +107,14 @@ fn told_of(
     left: &Modelled,
     right: &Modelled,
 ) -> Result<Report, Untold>
-    requires left { IsModelled inputs.now known.now left.now.source left.now.catalog left.now.plan (map program_of left.now.programs) }
-    requires right { IsModelled (other_inputs inputs.now) known.now right.now.source right.now.catalog right.now.plan
+    requires left { IsModelled inputs.now known.now left.now.source left.now.catalog left.now.graph (map program_of left.now.programs) }
+    requires right { IsModelled (other_inputs inputs.now) known.now right.now.source right.now.catalog right.now.graph
         (map program_of right.now.programs) }
     ensures report { IfOk result (IsComparison conflicts inputs.now) }
     ensures refused { IfErr result (λ e. IfUntold e (ComparisonRefusal inputs.now)) }
 {
-    let asked = asked_on(alloc, inputs, known, conflicts, &left.source, &left.plan)?;
-    let other_asked = asked_on(alloc, inputs, known, conflicts, &right.source, &right.plan)?;
+    let asked = asked_on(alloc, inputs, known, conflicts, left)?;
+    let other_asked = asked_on(alloc, inputs, known, conflicts, right)?;
     let report = told_of_both(alloc, &asked, &other_asked, left, right)?;
     Ok(report)
 }
@@ -180,7 +124,7 @@ fn model_other(alloc: Global, inputs: &Inputs, known: &Known) -> Result<Modelled
     requires small { length (input_of (other_inputs inputs.now)) < 2 ^ 32 }
     requires known { IsKnown inputs.now known.now }
     ensures modelled { IfOk result
-        (λ m. IsModelled (other_inputs inputs.now) known.now m.source m.catalog m.plan (map program_of m.programs)) }
+        (λ m. IsModelled (other_inputs inputs.now) known.now m.source m.catalog m.graph (map program_of m.programs)) }
     ensures refused { IfErr result (λ e. IfRefused e (ProgramsRefusal (other_inputs inputs.now))) }
 {
     let source = other_source(alloc, inputs)?;
@@ -205,7 +149,7 @@ fn compare_with(
 ) -> Result<Report, Untold>
     requires small { length (input_of (other_inputs inputs.now)) < 2 ^ 32 }
     requires known { IsKnown inputs.now known.now }
-    requires left { IsModelled inputs.now known.now left.now.source left.now.catalog left.now.plan (map program_of left.now.programs) }
+    requires left { IsModelled inputs.now known.now left.now.source left.now.catalog left.now.graph (map program_of left.now.programs) }
     ensures report { IfOk result (IsComparison conflicts inputs.now) }
     ensures refused { IfErr result (λ e. IfUntold e (ComparisonRefusal inputs.now)) }
 {

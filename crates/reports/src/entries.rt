@@ -1,23 +1,21 @@
 //! What is told of an entry that is wanted.
 
-ghost use Rattle.std.specs.Prelude.{◌≡◌, ◌<◌, length, map, IfOk, IfErr};
-ghost use Rattle.std.specs.List.{AllByRecursion};
+ghost use Rattle.std.specs.Prelude.{map, IfOk, IfErr};
 ghost use Rattle.rh_base.specs.Refused.{IfRefused};
 ghost use Rattle.fs_lang.specs.Meaning.{program_of};
 ghost use Rattle.given_entry.specs.Sizes.{IsTooLargeProbed};
 ghost use Rattle.entry_report.specs.Told.{IsEntryTold};
+ghost use Rattle.reports.specs.Stages.{IsInOrder};
 ghost use Rattle.reports.specs.Questions.{names_in};
 
+use crate::modelling::Modelled;
 use crate::terms::Asked;
-use crate::verdicts::names_in;
-use catalog::Catalog;
-use dep_graph::Graph;
+use crate::verdicts::names_of;
 use entry_report::told;
-use fs_lang::Program;
 use plans::Plan;
 use rh_base::Fault;
 use std::alloc::Global;
-use verdict_report::Report;
+use verdict_report::{NamedPlan, Report};
 use wanted_entry::Wanted;
 
 /// What is told of an entry that is wanted of resources.
@@ -25,27 +23,25 @@ pub fn ensured(
     alloc: Global,
     asked: &Asked,
     wanted: &Wanted,
-    catalog: &Catalog,
-    plan: &Graph,
-    programs: &[Program],
+    made: &Modelled,
 ) -> Result<Report, Fault>
-    requires count { length programs.now ≡ plan.now.order.count }
-    requires many { plan.now.order.count ≡ length plan.now.plain }
-    requires places { AllByRecursion (λ k. k < length catalog.now.resources) plan.now.plain }
+    requires { IsInOrder made.now.catalog made.now.graph (map program_of made.now.programs) }
     ensures told { IfOk result
-        (IsEntryTold asked.now.terms asked.now.notes wanted.now (names_in catalog.now plan.now.plain)
-        (map program_of programs.now) plan.now.order) }
+        (IsEntryTold asked.now.terms asked.now.notes wanted.now (names_in made.now.catalog made.now.graph.plain)
+        (map program_of made.now.programs) made.now.graph.order) }
     ensures refused { IfErr result
         (λ e. IfRefused e (IsTooLargeProbed asked.now.terms.limits asked.now.terms.given
-        (map program_of programs.now) wanted.now)) }
+        (map program_of made.now.programs) wanted.now)) }
 {
-    let plain = plan.plain.as_slice();
-    let names = names_in(alloc, catalog, plain)?;
-    let shown = names.as_slice();
-    let notes = asked.notes.as_str().as_bytes();
-    let ordered = Plan {
-        programs,
-        order: &plan.order,
+    let names = names_of(alloc, made)?;
+    let plan = Plan {
+        programs: made.programs.as_slice(),
+        order: &made.graph.order,
     };
-    told(alloc, &asked.terms, notes, wanted, shown, &ordered)
+    let named = NamedPlan {
+        plan: &plan,
+        names: names.as_slice(),
+        notes: asked.notes.as_str().as_bytes(),
+    };
+    told(alloc, &asked.terms, wanted, &named)
 }

@@ -7,18 +7,17 @@ ghost use Rattle.fs_lang.specs.Meaning.{program_of};
 ghost use Rattle.known_inputs.specs.Inputs.{input_of};
 ghost use Rattle.node_label.specs.Labels.{IsNodeLineOf};
 ghost use Rattle.given_verdict.specs.Limits.{IsTooLargeWith};
-ghost use Rattle.reports.specs.Stages.{node_name, IsCompiled};
+ghost use Rattle.reports.specs.Stages.{node_name, IsCompiled, IsInOrder};
 ghost use Rattle.reports.specs.Explanations.{placed_name, AreNamed, IsNodeNote, IsExplanation};
 
 use crate::compiling::node_name;
+use crate::modelling::Modelled;
 use crate::terms::Asked;
 use crate::verdicts::name_at;
 use catalog::Catalog;
 use compiled_relations::told as told_with_line;
 use compiled_text::CompiledCatalog;
-use dep_graph::Graph;
 use explain_report::told;
-use fs_lang::Program;
 use known_inputs::{Inputs, Known};
 use node_label::node_line;
 use placed_names::placed_names;
@@ -124,28 +123,26 @@ pub fn explained(
     asked: &Asked,
     inputs: &Inputs,
     known: &Known,
-    source: &Option<CompiledCatalog>,
-    catalog: &Catalog,
-    plan: &Graph,
-    programs: &[Program],
+    made: &Modelled,
 ) -> Result<Report, Fault>
     requires small { length (input_of inputs.now) < 2 ^ 32 }
-    requires compiled { IsCompiled inputs.now known.now source.now catalog.now }
-    requires count { length programs.now ≡ plan.now.order.count }
-    requires places { AllByRecursion (λ k. k < length catalog.now.resources) plan.now.plain }
-    ensures told { IfOk result (IsExplanation asked.now inputs.now source.now catalog.now plan.now (map program_of programs.now)) }
+    requires compiled { IsCompiled inputs.now known.now made.now.source made.now.catalog }
+    requires order { IsInOrder made.now.catalog made.now.graph (map program_of made.now.programs) }
+    ensures told { IfOk result (IsExplanation asked.now inputs.now made.now.source made.now.catalog made.now.graph
+        (map program_of made.now.programs)) }
     ensures refused { IfErr result
-        (λ e. IfRefused e (IsTooLargeWith asked.now.terms.limits asked.now.terms.given (map program_of programs.now))) }
+        (λ e. IfRefused e (IsTooLargeWith asked.now.terms.limits asked.now.terms.given (map program_of made.now.programs))) }
 {
-    let names = names_of(alloc, inputs, source, catalog, plan.plain.as_slice())?;
-    let mut notes = node_note(alloc, inputs, known, source, catalog)?;
+    let plain = made.graph.plain.as_slice();
+    let names = names_of(alloc, inputs, &made.source, &made.catalog, plain)?;
+    let mut notes = node_note(alloc, inputs, known, &made.source, &made.catalog)?;
     notes.push(asked.notes.as_str())?;
     let shown = names.as_slice();
     let lines = notes.as_str().as_bytes();
-    let ordered = Plan {
-        programs,
-        order: &plan.order,
+    let plan = Plan {
+        programs: made.programs.as_slice(),
+        order: &made.graph.order,
     };
-    let report = told(alloc, &asked.terms, lines, shown, &ordered)?;
+    let report = told(alloc, &asked.terms, lines, shown, &plan)?;
     Ok(report)
 }

@@ -5,6 +5,7 @@ ghost use Rattle.std.specs.List.{AllByRecursion};
 ghost use Rattle.fs_lang.specs.Meaning.{program_of};
 ghost use Rattle.reports.specs.Reports.{is_assumed_at, assumed_mark, resource_program, program_lines};
 
+use crate::modelling::Modelled;
 use catalog::Catalog;
 use compiled_models::assumed_at_places;
 use compiled_text::CompiledCatalog;
@@ -99,18 +100,22 @@ fn push_programs(
 }
 
 /// The lines of resources with their programs.
-pub fn program_lines(
-    alloc: Global,
-    known: &Known,
-    source: &Option<CompiledCatalog>,
-    catalog: &Catalog,
-    plain: &[u32],
-    programs: &[Program],
-) -> Result<Seq<u8>, NoMemory>
-    requires { AllByRecursion (λ i. i < length catalog.now.resources) plain.now }
-    ensures { IfOk result (λ bytes. bytes ≡ program_lines known.now source.now catalog.now plain.now (map program_of programs.now)) }
+pub fn program_lines(alloc: Global, known: &Known, made: &Modelled) -> Result<Seq<u8>, NoMemory>
+    requires { AllByRecursion (λ i. i < length made.now.catalog.resources) made.now.graph.plain }
+    ensures { IfOk result (λ bytes. bytes ≡ program_lines known.now made.now.source made.now.catalog made.now.graph.plain
+        (map program_of made.now.programs)) }
 {
+    let plain = made.graph.plain.as_slice();
+    let programs = made.programs.as_slice();
     let mut bytes = Vec::new(alloc);
-    push_programs(alloc, known, source, catalog, plain, programs, &mut bytes)?;
+    push_programs(
+        alloc,
+        known,
+        &made.source,
+        &made.catalog,
+        plain,
+        programs,
+        &mut bytes,
+    )?;
     Ok(Seq::from_vec(bytes))
 }

@@ -6,18 +6,18 @@ ghost use Rattle.rh_base.specs.Refused.{IfRefused};
 ghost use Rattle.fs_lang.specs.Meaning.{program_of};
 ghost use Rattle.given_verdict.specs.Limits.{IsTooLargeWith};
 ghost use Rattle.repair_report.specs.Told.{IsRepairTold};
+ghost use Rattle.reports.specs.Stages.{IsInOrder};
 ghost use Rattle.reports.specs.Questions.{quoted_as_told, quoted_at, quoted_names_in};
 
+use crate::modelling::Modelled;
 use crate::terms::Asked;
 use catalog::Catalog;
 use compiled_text::CompiledCatalog;
-use dep_graph::Graph;
-use fs_lang::Program;
 use plans::Plan;
 use repair_report::{quoted_ref, told};
 use rh_base::{Fault, NoMemory, Seq, Text};
 use std::alloc::Global;
-use verdict_report::Report;
+use verdict_report::{NamedPlan, Report};
 
 /// The reference of the resource at a place of a compiled catalog, by the type and the title that its text tells, as it is written in
 /// Puppet.
@@ -63,31 +63,35 @@ fn quoted_names_in(
     Ok(names)
 }
 
-/// What is told of the arrows that resources lack.
-pub fn repaired(
-    alloc: Global,
-    asked: &Asked,
-    source: &Option<CompiledCatalog>,
-    catalog: &Catalog,
-    plan: &Graph,
-    programs: &[Program],
-) -> Result<Report, Fault>
-    requires count { length programs.now ≡ plan.now.order.count }
-    requires many { plan.now.order.count ≡ length plan.now.plain }
-    requires places { AllByRecursion (λ k. k < length catalog.now.resources) plan.now.plain }
-    ensures told { IfOk result
-        (IsRepairTold asked.now.terms asked.now.notes (quoted_names_in source.now catalog.now plan.now.plain)
-        (map program_of programs.now) plan.now.order) }
-    ensures refused { IfErr result
-        (λ e. IfRefused e (IsTooLargeWith asked.now.terms.limits asked.now.terms.given (map program_of programs.now))) }
+/// The references of the resources that are asked about, as they are written in Puppet.
+fn quoted_names_of(alloc: Global, made: &Modelled) -> Result<Seq<Text>, NoMemory>
+    requires { IsInOrder made.now.catalog made.now.graph (map program_of made.now.programs) }
+    ensures names { IfOk result (λ names. names ≡ quoted_names_in made.now.source made.now.catalog made.now.graph.plain) }
+    ensures count { IfOk result (λ names. length names ≡ made.now.graph.order.count) }
 {
-    let plain = plan.plain.as_slice();
-    let names = quoted_names_in(alloc, source, catalog, plain)?;
-    let shown = names.as_slice();
-    let notes = asked.notes.as_str().as_bytes();
-    let ordered = Plan {
-        programs,
-        order: &plan.order,
+    let plain = made.graph.plain.as_slice();
+    let names = quoted_names_in(alloc, &made.source, &made.catalog, plain)?;
+    Ok(names)
+}
+
+/// What is told of the arrows that resources lack.
+pub fn repaired(alloc: Global, asked: &Asked, made: &Modelled) -> Result<Report, Fault>
+    requires { IsInOrder made.now.catalog made.now.graph (map program_of made.now.programs) }
+    ensures told { IfOk result
+        (IsRepairTold asked.now.terms asked.now.notes (quoted_names_in made.now.source made.now.catalog made.now.graph.plain)
+        (map program_of made.now.programs) made.now.graph.order) }
+    ensures refused { IfErr result
+        (λ e. IfRefused e (IsTooLargeWith asked.now.terms.limits asked.now.terms.given (map program_of made.now.programs))) }
+{
+    let names = quoted_names_of(alloc, made)?;
+    let plan = Plan {
+        programs: made.programs.as_slice(),
+        order: &made.graph.order,
     };
-    told(alloc, &asked.terms, notes, shown, &ordered)
+    let named = NamedPlan {
+        plan: &plan,
+        names: names.as_slice(),
+        notes: asked.notes.as_str().as_bytes(),
+    };
+    told(alloc, &asked.terms, &named)
 }

@@ -8,8 +8,10 @@ ghost use Rattle.allowed_order.specs.AllowedOrder.{AreToldApart};
 ghost use Rattle.fs_lang.specs.Meaning.{program_of};
 ghost use Rattle.fs_semantics.specs.Orders.{outcome};
 ghost use Rattle.verdict_text.specs.Lines.{outcome_line};
+ghost use Rattle.reports.specs.Stages.{IsInOrder};
 ghost use Rattle.reports.specs.Replays.{IsOrderFor, HasNoOrder, IsReplayed};
 
+use crate::modelling::Modelled;
 use allowed_order::order_of;
 use catalog::Catalog;
 use dep_graph::Graph;
@@ -58,18 +60,18 @@ pub fn replayed(
     alloc: Global,
     text: Option<&[u8]>,
     tree: &Tree,
-    catalog: &Catalog,
-    plan: &Graph,
-    programs: &[Program],
+    made: &Modelled,
 ) -> Result<Seq<u8>, Fault>
-    requires count { plan.now.order.count ≡ length plan.now.plain }
-    requires apart { AreToldApart catalog.now plan.now.plain }
-    requires programs { length programs.now ≡ length plan.now.plain }
+    requires order { IsInOrder made.now.catalog made.now.graph (map program_of made.now.programs) }
+    requires apart { AreToldApart made.now.catalog made.now.graph.plain }
     ensures told { IfOk result
-        (IsReplayed (option_map (λ b. b.now) text.entry) tree.now catalog.now plan.now (map program_of programs.now)) }
-    ensures refused { IfErr result (λ e. IfRefused e (HasNoOrder (option_map (λ b. b.now) text.entry) catalog.now plan.now)) }
+        (IsReplayed (option_map (λ b. b.now) text.entry) tree.now made.now.catalog made.now.graph
+        (map program_of made.now.programs)) }
+    ensures refused { IfErr result
+        (λ e. IfRefused e (HasNoOrder (option_map (λ b. b.now) text.entry) made.now.catalog made.now.graph)) }
 {
-    let order = order_for(alloc, text, catalog, plan)?;
+    let order = order_for(alloc, text, &made.catalog, &made.graph)?;
     let turns = order.as_slice();
+    let programs = made.programs.as_slice();
     Ok(replayed_in(alloc, programs, turns, tree)?)
 }

@@ -5,10 +5,10 @@ ghost use Rattle.command_line.specs.declared.table.Role.TheVariants as role;
 ghost use Rattle.known_inputs.specs.Inputs.{bytes_of};
 ghost use Rattle.reports.specs.Terms.{terms_of, given_line, assumed_count, assumed_line, notes_of, asked_on, wanted_in};
 
+use crate::modelling::Modelled;
 use command_line::Role;
 use compiled_models::count_assumed;
 use compiled_text::CompiledCatalog;
-use dep_graph::Graph;
 use fs_lang::Path;
 use given_links::read_path;
 use known_inputs::{Inputs, Known};
@@ -114,19 +114,19 @@ fn notes_of(
     Ok(notes)
 }
 
-/// On what terms the programs of a graph's resources are asked about, and the lines behind their number.
+/// On what terms the programs of resources are asked about, and the lines behind their number.
 pub fn asked_on(
     alloc: Global,
     inputs: &Inputs,
     known: &Known,
     conflicts: Option<u64>,
-    source: &Option<CompiledCatalog>,
-    plan: &Graph,
+    made: &Modelled,
 ) -> Result<Asked, NoMemory>
-    ensures { IfOk result (λ asked. asked ≡ asked_on inputs.now known.now conflicts source.now plan.now.plain) }
+    ensures { IfOk result (λ asked. asked ≡ asked_on inputs.now known.now conflicts made.now.source made.now.graph.plain) }
 {
     let terms = terms_of(alloc, inputs, known, conflicts)?;
-    let notes = notes_of(alloc, inputs, known, source, plan.plain.as_slice())?;
+    let plain = made.graph.plain.as_slice();
+    let notes = notes_of(alloc, inputs, known, &made.source, plain)?;
     Ok(Asked { terms, notes })
 }
 

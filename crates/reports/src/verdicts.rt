@@ -7,17 +7,17 @@ ghost use Rattle.fs_lang.specs.Meaning.{program_of};
 ghost use Rattle.graph_semantics.specs.Graphs.{reference_at};
 ghost use Rattle.given_verdict.specs.Limits.{IsTooLargeWith};
 ghost use Rattle.verdict_report.specs.Told.{IsTold};
+ghost use Rattle.reports.specs.Stages.{IsInOrder};
 ghost use Rattle.reports.specs.Questions.{names_in};
 
+use crate::modelling::Modelled;
 use crate::terms::Asked;
 use catalog::Catalog;
-use dep_graph::Graph;
-use fs_lang::Program;
 use plans::Plan;
 use pp_value::shown_ref;
 use rh_base::{Fault, NoMemory, Seq, Text};
 use std::alloc::Global;
-use verdict_report::{Form, Report, told};
+use verdict_report::{Form, NamedPlan, Report, told};
 
 /// The reference of the resource at a place, as it is shown.
 pub(crate) fn name_at(alloc: Global, catalog: &Catalog, place: u32) -> Result<Text, NoMemory>
@@ -43,31 +43,35 @@ pub(crate) fn names_in(
     Ok(names)
 }
 
-/// What is told of the programs of resources and the order between them.
-pub fn judged(
-    alloc: Global,
-    form: Form,
-    asked: &Asked,
-    catalog: &Catalog,
-    plan: &Graph,
-    programs: &[Program],
-) -> Result<Report, Fault>
-    requires count { length programs.now ≡ plan.now.order.count }
-    requires many { plan.now.order.count ≡ length plan.now.plain }
-    requires places { AllByRecursion (λ k. k < length catalog.now.resources) plan.now.plain }
-    ensures told { IfOk result
-        (IsTold form asked.now.terms asked.now.notes (names_in catalog.now plan.now.plain)
-        (map program_of programs.now) plan.now.order) }
-    ensures refused { IfErr result
-        (λ e. IfRefused e (IsTooLargeWith asked.now.terms.limits asked.now.terms.given (map program_of programs.now))) }
+/// The references of the resources.
+pub(crate) fn names_of(alloc: Global, made: &Modelled) -> Result<Seq<Text>, NoMemory>
+    requires { IsInOrder made.now.catalog made.now.graph (map program_of made.now.programs) }
+    ensures names { IfOk result (λ names. names ≡ names_in made.now.catalog made.now.graph.plain) }
+    ensures count { IfOk result (λ names. length names ≡ made.now.graph.order.count) }
 {
-    let plain = plan.plain.as_slice();
-    let names = names_in(alloc, catalog, plain)?;
-    let shown = names.as_slice();
-    let notes = asked.notes.as_str().as_bytes();
-    let ordered = Plan {
-        programs,
-        order: &plan.order,
+    let plain = made.graph.plain.as_slice();
+    let names = names_in(alloc, &made.catalog, plain)?;
+    Ok(names)
+}
+
+/// What is told of the programs of resources and the order between them.
+pub fn judged(alloc: Global, form: Form, asked: &Asked, made: &Modelled) -> Result<Report, Fault>
+    requires { IsInOrder made.now.catalog made.now.graph (map program_of made.now.programs) }
+    ensures told { IfOk result
+        (IsTold form asked.now.terms asked.now.notes (names_in made.now.catalog made.now.graph.plain)
+        (map program_of made.now.programs) made.now.graph.order) }
+    ensures refused { IfErr result
+        (λ e. IfRefused e (IsTooLargeWith asked.now.terms.limits asked.now.terms.given (map program_of made.now.programs))) }
+{
+    let names = names_of(alloc, made)?;
+    let plan = Plan {
+        programs: made.programs.as_slice(),
+        order: &made.graph.order,
     };
-    told(alloc, form, &asked.terms, notes, shown, &ordered)
+    let named = NamedPlan {
+        plan: &plan,
+        names: names.as_slice(),
+        notes: asked.notes.as_str().as_bytes(),
+    };
+    told(alloc, form, &asked.terms, &named)
 }

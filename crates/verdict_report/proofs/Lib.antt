@@ -1,3 +1,3 @@
 pub mod TrimmedLaws
 pub mod VerdictLaws
-pub mod PieceLaws
+pub mod NamedLaws

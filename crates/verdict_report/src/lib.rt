@@ -3,12 +3,14 @@
 #![tactic(auto)]
 
 mod lines;
+mod named;
 mod proofs;
 mod report;
 mod runs;
 mod telling;
 
-pub use lines::{push_count, push_head, push_known, push_last, push_spent, spent_text};
+pub use lines::{begun, push_count, push_head, push_known, push_last, push_spent, spent_text};
+pub use named::NamedPlan;
 pub use report::{Form, Report, printed};
 pub use runs::{difference_text, push_run};
 pub use telling::told;

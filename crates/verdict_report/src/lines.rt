@@ -1,8 +1,9 @@
 //! The lines on numbers, answers and questions.
 
-ghost use Rattle.std.specs.Prelude.{◌≡◌, ◌++◌, IfOk, OnOk};
+ghost use Rattle.std.specs.Prelude.{◌≡◌, ◌++◌, length, IfOk, OnOk};
 ghost use Rattle.verdict_report.specs.Lines.{count_lines, head_lines, last_line, sure_text, known_lines, question_name, spent_line, spent_text};
 
+use crate::named::NamedPlan;
 use rh_base::{NoMemory, Seq};
 use std::alloc::Global;
 use verdict::{Asked, Ends};
@@ -32,6 +33,28 @@ pub fn push_head(
     push_bytes(line.as_str().as_bytes(), into)
 }
 
+/// Begins the lines on a graph with its head, and what is known of it.
+pub fn begun(
+    alloc: Global,
+    named: &NamedPlan<'_>,
+    pruned: u32,
+    known: &[u8],
+) -> Result<Vec<u8>, NoMemory>
+    ensures { IfOk result (λ bytes. bytes.items ≡ head_lines (length named.now.plan.now.programs.now) named.now.notes.now pruned
+        ++ known.now) }
+{
+    let mut bytes = Vec::new(alloc);
+    push_head(
+        alloc,
+        named.plan.programs.len(),
+        named.notes,
+        pruned,
+        &mut bytes,
+    )?;
+    push_bytes(known, &mut bytes)?;
+    Ok(bytes)
+}
+
 /// Appends whether some tree has a run without error.
 pub fn push_last(end: &Ends, into: &mut Vec<u8>) -> Result<(), NoMemory>
     ensures { OnOk result (into.new.items ≡ into.old.items ++ last_line end.now) }
@@ -45,16 +68,14 @@ pub fn push_last(end: &Ends, into: &mut Vec<u8>) -> Result<(), NoMemory>
 /// The lines where all is well.
 pub fn sure_text(
     alloc: Global,
-    n: usize,
-    notes: &[u8],
+    named: &NamedPlan<'_>,
     pruned: u32,
     end: &Ends,
 ) -> Result<Seq<u8>, NoMemory>
-    ensures { IfOk result (λ text. text ≡ sure_text n notes.now pruned (last_line end.now)) }
+    ensures { IfOk result (λ text. text ≡ sure_text (length named.now.plan.now.programs.now) named.now.notes.now pruned
+        (last_line end.now)) }
 {
-    let mut bytes = Vec::new(alloc);
-    push_head(alloc, n, notes, pruned, &mut bytes)?;
-    push_bytes(b"deterministic\nidempotent\n", &mut bytes)?;
+    let mut bytes = begun(alloc, named, pruned, b"deterministic\nidempotent\n")?;
     push_last(end, &mut bytes)?;
     Ok(Seq::from_vec(bytes))
 }
@@ -97,16 +118,15 @@ pub fn push_spent(
 /// The lines where a question's conflicts are spent.
 pub fn spent_text(
     alloc: Global,
-    n: usize,
-    notes: &[u8],
+    named: &NamedPlan<'_>,
     pruned: u32,
     asked: &Asked,
     budget: u64,
 ) -> Result<Seq<u8>, NoMemory>
-    ensures { IfOk result (λ text. text ≡ spent_text n notes.now pruned asked.now budget) }
+    ensures { IfOk result (λ text. text ≡ spent_text (length named.now.plan.now.programs.now) named.now.notes.now pruned
+        asked.now budget) }
 {
-    let mut bytes = Vec::new(alloc);
-    push_head(alloc, n, notes, pruned, &mut bytes)?;
+    let mut bytes = begun(alloc, named, pruned, b"")?;
     push_known(asked, &mut bytes)?;
     push_spent(alloc, asked, budget, &mut bytes)?;
     Ok(Seq::from_vec(bytes))

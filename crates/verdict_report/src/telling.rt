@@ -1,8 +1,7 @@
 //! What is told of programs and the order between them.
 
-ghost use Rattle.std.specs.Prelude.{◌≡◌, [], length, map, IfOk, IfErr};
+ghost use Rattle.std.specs.Prelude.{◌≡◌, [], length, IfOk, IfErr};
 ghost use Rattle.rh_base.specs.Refused.{IfRefused};
-ghost use Rattle.fs_lang.specs.Meaning.{program_of};
 ghost use Rattle.plans.specs.Plans.{meant_by};
 ghost use Rattle.given_verdict.specs.Limits.{IsTooLargeWith};
 ghost use Rattle.verdict_report.specs.Lines.{status_of, answer_of, lines_of, proofs_of};
@@ -10,14 +9,13 @@ ghost use Rattle.verdict_report.specs.Told.{IsTextOf, IsReportOf, IsTellable, Is
 ghost use Rattle.verdict_report.specs.declared.report.Form.TheVariants as form_is;
 
 use crate::lines::{spent_text, sure_text};
+use crate::named::NamedPlan;
 use crate::proofs::{all_trimmed, proofs_of, proofs_text};
 use crate::report::{Form, Report};
 use crate::runs::{change_text, difference_text};
-use fs_lang::Program;
 use given_verdict::judge_from;
-use plans::Plan;
 use question_terms::Terms;
-use rh_base::{Fault, NoMemory, Seq, Text};
+use rh_base::{Fault, NoMemory, Seq};
 use std::alloc::Global;
 use verdict::{Ends, Second, Verdict};
 
@@ -41,49 +39,43 @@ fn status_of(judged: &Verdict) -> u8
 /// The lines on deterministic programs.
 fn answer_of(
     alloc: Global,
-    names: &[Text],
-    programs: &[Program],
-    notes: &[u8],
+    named: &NamedPlan<'_>,
     pruned: u32,
     second: &Second,
     end: &Ends,
 ) -> Result<Seq<u8>, NoMemory>
-    requires named { IsTellableAgain (length names.now) second.now }
-    requires places { IsTellableAgain (length programs.now) second.now }
-    ensures { IfOk result (λ text. text ≡ answer_of names.now (map program_of programs.now) notes.now pruned second.now end.now) }
+    requires { IsTellableAgain (length named.now.names.now) second.now }
+    ensures { IfOk result (λ text. text ≡ answer_of named.now.names.now (meant_by named.now.plan.now)
+        named.now.notes.now pruned second.now end.now) }
 {
     match second {
-        Second::Same(_) => sure_text(alloc, programs.len(), notes, pruned, end),
-        Second::Differs(witness) => change_text(alloc, names, programs, notes, pruned, witness),
+        Second::Same(_) => sure_text(alloc, named, pruned, end),
+        Second::Differs(witness) => change_text(alloc, named, pruned, witness),
     }
 }
 
 /// The lines on a verdict.
 fn lines_of(
     alloc: Global,
-    names: &[Text],
-    programs: &[Program],
-    notes: &[u8],
+    named: &NamedPlan<'_>,
     budget: u64,
     judged: &Verdict,
 ) -> Result<Seq<u8>, NoMemory>
-    requires named { IsTellable (length names.now) judged.now }
-    requires places { IsTellable (length programs.now) judged.now }
-    ensures { IfOk result (λ text. text ≡ lines_of names.now (map program_of programs.now) notes.now budget judged.now) }
+    requires { IsTellable (length named.now.names.now) judged.now }
+    ensures { IfOk result (λ text. text ≡ lines_of named.now.names.now (meant_by named.now.plan.now)
+        named.now.notes.now budget judged.now) }
 {
     match judged {
         Verdict::NotDeterministic { pruned, witness } => {
-            difference_text(alloc, names, programs, notes, *pruned, witness)
+            difference_text(alloc, named, *pruned, witness)
         }
         Verdict::Judged {
             pruned,
             second,
             ends,
             ..
-        } => { answer_of(alloc, names, programs, notes, *pruned, second, ends) }
-        Verdict::Spent { pruned, asked, .. } => {
-            spent_text(alloc, programs.len(), notes, *pruned, asked, budget)
-        }
+        } => answer_of(alloc, named, *pruned, second, ends),
+        Verdict::Spent { pruned, asked, .. } => spent_text(alloc, named, *pruned, asked, budget),
     }
 }
 
@@ -102,41 +94,37 @@ fn proofs_in(alloc: Global, judged: Verdict) -> Result<Seq<u8>, NoMemory>
 fn report_of(
     alloc: Global,
     form: Form,
-    names: &[Text],
-    programs: &[Program],
-    notes: &[u8],
+    named: &NamedPlan<'_>,
     budget: u64,
     judged: Verdict,
 ) -> Result<Report, NoMemory>
-    requires named { IsTellable (length names.now) judged }
-    requires places { IsTellable (length programs.now) judged }
-    ensures { IfOk result (IsReportOf form notes.now names.now (map program_of programs.now) budget judged) }
+    requires { IsTellable (length named.now.names.now) judged }
+    ensures { IfOk result (IsReportOf form named.now.notes.now named.now.names.now (meant_by named.now.plan.now) budget judged) }
 {
     let status = status_of(&judged);
     let text = match form {
-        Form::Lines => lines_of(alloc, names, programs, notes, budget, &judged)?,
+        Form::Lines => lines_of(alloc, named, budget, &judged)?,
         Form::Proofs => proofs_in(alloc, judged)?,
     };
     Ok(Report { status, text })
 }
 
-/// What is told of programs and the order between them, in one form or the other. The resources have these names, and these notes
-/// stand behind their number.
+/// What is told of programs and the order between them, in one form or the other.
 pub fn told(
     alloc: Global,
     form: Form,
     terms: &Terms,
-    notes: &[u8],
-    names: &[Text],
-    plan: &Plan<'_>,
+    named: &NamedPlan<'_>,
 ) -> Result<Report, Fault>
-    requires { length names.now ≡ plan.now.order.now.count }
-    ensures told { IfOk result (IsTold form terms.now notes.now names.now (meant_by plan.now) plan.now.order.now) }
+    ensures told { IfOk result
+        (IsTold form terms.now named.now.notes.now named.now.names.now (meant_by named.now.plan.now)
+        named.now.plan.now.order.now) }
     // It is refused exactly where the graph is too large to be asked about.
-    ensures refused { IfErr result (λ e. IfRefused e (IsTooLargeWith terms.now.limits terms.now.given (meant_by plan.now))) }
+    ensures refused { IfErr result
+        (λ e. IfRefused e (IsTooLargeWith terms.now.limits terms.now.given (meant_by named.now.plan.now))) }
 {
-    let judged = judge_from(alloc, plan, terms)?;
+    let judged = judge_from(alloc, named.plan, terms)?;
     let budget = terms.budget();
-    let report = report_of(alloc, form, names, plan.programs, notes, budget, judged)?;
+    let report = report_of(alloc, form, named, budget, judged)?;
     Ok(report)
 }

@@ -5,8 +5,10 @@ use Rattle.reports.proofs.stages.report_on_programs.Goals as goal
 
 pub returns-clause-report : goal.returns-clause-report
 returns-clause-report c =
-    report_of c.args.question c.args.inputs.now c.args.known.now c.args.source.now c.args.catalog.now c.args.plan.now (map program_of c.args.programs.now) c.told_of.result c.requires.modelled c.told_of.ensures.told
+    let m = c.args.made.now in
+    report_of c.args.question c.args.inputs.now c.args.known.now m.source m.catalog m.graph (map program_of m.programs) c.told_of.result c.requires.modelled c.told_of.ensures.told
 
 pub returns-clause-refused : goal.returns-clause-refused
 returns-clause-refused c =
-    refusal_of c.args.question c.args.inputs.now c.args.known.now c.args.source.now c.args.catalog.now c.args.plan.now (map program_of c.args.programs.now) c.told_of.result c.requires.modelled c.told_of.ensures.refused
+    let m = c.args.made.now in
+    refusal_of c.args.question c.args.inputs.now c.args.known.now m.source m.catalog m.graph (map program_of m.programs) c.told_of.result c.requires.modelled c.told_of.ensures.refused

@@ -5,17 +5,15 @@ use Rattle.question_terms.specs.Terms.{budget_of}
 use Rattle.verdict_report.proofs.VerdictLaws.{tellable, told_is}
 use Rattle.verdict_report.proofs.telling.told.Goals as goal
 
-pub report_of-requires-clause-named : goal.report_of-requires-clause-named
-report_of-requires-clause-named c =
-    tellable c.args.terms.now.given (map program_of c.args.plan.now.programs.now) c.args.plan.now.order.now _ (c.requires ∙ sym c.args.plan.now.count ∙ sym (length-map c.args.plan.now.programs.now program_of))
+pub report_of-requires : goal.report_of-requires
+report_of-requires c =
+    let n = c.args.named.now in
+    let es = map program_of n.plan.now.programs.now in
+    tellable c.args.terms.now.given es n.plan.now.order.now _ (n.named ∙ sym n.plan.now.count ∙ sym (length-map n.plan.now.programs.now program_of))
     (budget_of c.args.terms.now.conflicts) c.in_ok-judged.judged c.in_ok-judged.ensures.judged
-
-pub report_of-requires-clause-places : goal.report_of-requires-clause-places
-report_of-requires-clause-places c =
-    tellable c.args.terms.now.given (map program_of c.args.plan.now.programs.now) c.args.plan.now.order.now _ (sym (length-map c.args.plan.now.programs.now program_of)) (budget_of c.args.terms.now.conflicts)
-    c.in_ok-judged.judged c.in_ok-judged.ensures.judged
 
 pub returns-clause-told : goal.returns-clause-told
 returns-clause-told c =
-    told_is c.args.form c.args.terms.now c.args.notes.now c.args.names.now (map program_of c.args.plan.now.programs.now) c.args.plan.now.order.now c.budget-budget.result c.in_ok-judged.judged c.in_ok-report.report
+    let n = c.args.named.now in
+    told_is c.args.form c.args.terms.now n.notes.now n.names.now (map program_of n.plan.now.programs.now) n.plan.now.order.now c.budget-budget.result c.in_ok-judged.judged c.in_ok-report.report
     c.budget-budget.ensures.budget c.in_ok-judged.ensures.paths c.in_ok-judged.ensures.weight c.in_ok-judged.ensures.judged c.in_ok-report.ensures

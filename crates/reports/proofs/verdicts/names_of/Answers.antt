@@ -3,7 +3,7 @@ use Rattle.std.proofs.lemmas.List.{length-map}
 use Rattle.std.specs.List.{AllByRecursion}
 use Rattle.graph_semantics.specs.Graphs.{reference_at}
 use Rattle.reports.specs.Questions.{names_in}
-use Rattle.reports.proofs.comparisons.names_of.Goals as goal
+use Rattle.reports.proofs.verdicts.names_of.Goals as goal
 
 pub names_in-requires : goal.names_in-requires
 names_in-requires c = subst (AllByRecursion (λ k. k < length c.args.made.now.catalog.resources)) (sym c.as_slice-plain.ensures) c.requires.places
