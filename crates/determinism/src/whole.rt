@@ -14,7 +14,7 @@ ghost use Rattle.determinism.specs.Questions.{States};
 ghost use Rattle.determinism.specs.First.{IsDifference};
 ghost use Rattle.determinism.specs.Answers.{AnswersOrder, HasTwoOrders};
 
-use crate::asking::{ask_orders, question};
+use crate::asking::{ask, question};
 use answering::{Answer, answer_to};
 use commute_prune::{are_proper, pruning};
 use finite_domain::{domains, witnesses_over_the_domain};
@@ -103,7 +103,7 @@ pub(crate) fn ask_whole(
     ensures { IfOk result (AnswersOrder (meant_by plan.now) plan.now.order.now budget) }
 {
     if kept.pruned.kept.len() >= MOST {
-        return ask_orders(alloc, plan, budget);
+        return ask(alloc, plan, budget);
     }
     let contracted = contract(alloc, plan, kept)?;
     match ask_contracted(alloc, plan, kept, &contracted, budget)? {
