@@ -22,6 +22,9 @@ use Rattle.known_inputs.specs.declared.inputs.Known.{Known}
 use Rattle.rehearsal_core.specs.Inputs.{Requests, Reports, IsAnswerTo}
 use Rattle.rehearsal_core.specs.Runs.{Run, Appends}
 use Rattle.rehearsal_core.specs.Headline.{ask_for, AsksForVerdict, AsksForEntry, AsksForRepair, AsksForComparison, Modelled, Judged, IsCompared, DoTheSame, DoOtherwise, OneDependsOnOrder, SpendsOnComparison, IsWell, DependsOnOrder, ChangesAgain, SpendsConflicts, LeavesEntry, MissesEntry, SpendsOnEntry, IsMended, SpendsOnRepair, AsksForExplanation, Explained, head_of, IsWellExplained, TellsWhyOrderMatters, TellsWhatChanges, SpendsOnExplanation, IsOfEveryTree, AreManifests, Headline}
+use Rattle.rehearsal_core.proofs.VerdictLaws as verdict_laws
+use Rattle.rehearsal_core.proofs.EntryLaws as entry_laws
+use Rattle.rehearsal_core.proofs.RepairLaws as repair_laws
 use Rattle.rehearsal_core.proofs.ComparedLaws as compared_laws
 use Rattle.rehearsal_core.proofs.ExplainedLaws as explained_laws
 use Rattle.rehearsal_core.specs.Answers.{WritesReport, Tells}
@@ -213,12 +216,7 @@ well_of : (run : Run) → AsksForVerdict run → WritesReport run 0 → IsWell r
 well_of run asks (report, reports, same, written, left) =
     let asked = asked_for run report reports asks.0 asks.1 ∙ asks.3 in
     elim (kind run report reports) [
-      | verdict f is answer ↦ elim answer.told.answer [
-        | inl sure ↦ record { judged = verdict_on run report reports f is answer; report = report; sure = sure; written = written }
-        | inr (inl different) ↦ absurd (omega (arith, same, different.status))
-        | inr (inr (inl changed)) ↦ absurd (omega (arith, same, changed.status))
-        | inr (inr (inr spent)) ↦ absurd (omega (arith, same, spent.status))
-      ]
+      | verdict f is answer ↦ record { judged = verdict_on run report reports f is answer; report = report; sure = verdict_laws.at_zero _ _ _ _ _ _ report answer.told same; written = written }
       | entry is answer ↦ absurd (no_verdict_wants asks.2 (sym asked ∙ is))
       | repair is answer ↦ absurd (no_verdict_repairs asks.2 (sym asked ∙ is))
       | both is answer ↦ absurd (no_verdict_compares asks.2 (sym asked ∙ is))
@@ -230,23 +228,9 @@ well_of run asks (report, reports, same, written, left) =
 depends_of : (run : Run) → WritesReport run 1 → DependsOnOrder run ⊎ (OneDependsOnOrder run ⊎ TellsWhyOrderMatters run)
 depends_of run (report, reports, same, written, left) =
     elim (kind run report reports) [
-      | verdict f is answer ↦ elim answer.told.answer [
-        | inl sure ↦ absurd (omega (arith, same, sure.status))
-        | inr (inl different) ↦ inl (record { judged = verdict_on run report reports f is answer; report = report; different = different; written = written })
-        | inr (inr (inl changed)) ↦ absurd (omega (arith, same, changed.status))
-        | inr (inr (inr spent)) ↦ absurd (omega (arith, same, spent.status))
-      ]
-      | entry is answer ↦ elim answer.told.answer [
-        | inl held ↦ absurd (omega (arith, same, held.status))
-        | inr (inl different) ↦ inl (record { judged = entry_on run report reports is answer; report = report; different = different; written = written })
-        | inr (inr (inl missed)) ↦ absurd (omega (arith, same, missed.status))
-        | inr (inr (inr (inl spent))) ↦ absurd (omega (arith, same, spent.status))
-        | inr (inr (inr (inr spent))) ↦ absurd (omega (arith, same, spent.status))
-      ]
-      | repair is answer ↦ elim answer.told.answer [
-        | inl mended ↦ absurd (omega (arith, same, mended.status))
-        | inr spent ↦ absurd (omega (arith, same, spent.status))
-      ]
+      | verdict f is answer ↦ inl (record { judged = verdict_on run report reports f is answer; report = report; different = verdict_laws.at_one _ _ _ _ _ _ report answer.told same; written = written })
+      | entry is answer ↦ inl (record { judged = entry_on run report reports is answer; report = report; different = entry_laws.at_one _ _ _ _ _ _ report answer.told same; written = written })
+      | repair is answer ↦ absurd (repair_laws.not_between _ _ _ _ _ report answer.told 1 (omega arith) (omega arith) same)
       | both is answer ↦ inr (inl (record { compared = compared run report reports is answer; report = report; differs = compared_laws.at_one _ _ _ _ _ _ _ _ _ report answer.told.answer same; written = written }))
       | why is answer ↦ inr (inr (record { explained = explained_on run report reports is answer; report = report; different = explained_laws.at_one _ _ _ _ _ report answer.told.told.answer same; written = written }))
       | other zero not_verdict not_repair not_entry not_equal not_why ↦ absurd (omega (arith, same, zero))
@@ -256,23 +240,9 @@ depends_of run (report, reports, same, written, left) =
 changes_of : (run : Run) → WritesReport run 2 → ChangesAgain run ⊎ TellsWhatChanges run
 changes_of run (report, reports, same, written, left) =
     elim (kind run report reports) [
-      | verdict f is answer ↦ elim answer.told.answer [
-        | inl sure ↦ absurd (omega (arith, same, sure.status))
-        | inr (inl different) ↦ absurd (omega (arith, same, different.status))
-        | inr (inr (inl changed)) ↦ inl (record { judged = verdict_on run report reports f is answer; report = report; changed = changed; written = written })
-        | inr (inr (inr spent)) ↦ absurd (omega (arith, same, spent.status))
-      ]
-      | entry is answer ↦ elim answer.told.answer [
-        | inl held ↦ absurd (omega (arith, same, held.status))
-        | inr (inl different) ↦ absurd (omega (arith, same, different.status))
-        | inr (inr (inl missed)) ↦ absurd (omega (arith, same, missed.status))
-        | inr (inr (inr (inl spent))) ↦ absurd (omega (arith, same, spent.status))
-        | inr (inr (inr (inr spent))) ↦ absurd (omega (arith, same, spent.status))
-      ]
-      | repair is answer ↦ elim answer.told.answer [
-        | inl mended ↦ absurd (omega (arith, same, mended.status))
-        | inr spent ↦ absurd (omega (arith, same, spent.status))
-      ]
+      | verdict f is answer ↦ inl (record { judged = verdict_on run report reports f is answer; report = report; changed = verdict_laws.at_two _ _ _ _ _ _ report answer.told same; written = written })
+      | entry is answer ↦ absurd (entry_laws.not_two _ _ _ _ _ _ report answer.told same)
+      | repair is answer ↦ absurd (repair_laws.not_between _ _ _ _ _ report answer.told 2 (omega arith) (omega arith) same)
       | both is answer ↦ absurd (compared_laws.not_two _ _ _ _ _ _ _ _ _ report answer.told.answer same)
       | why is answer ↦ inr (record { explained = explained_on run report reports is answer; report = report; changed = explained_laws.at_two _ _ _ _ _ report answer.told.told.answer same; written = written })
       | other zero not_verdict not_repair not_entry not_equal not_why ↦ absurd (omega (arith, same, zero))
@@ -300,52 +270,36 @@ spent_explanation run report reports same written is answer =
       written = written;
     }
 
+-- and so does what is told of a repair at that status
+spent_repair : (run : Run) (report : Report) (reports : Reports run.words run.held report) → report.status ≡ 3 → Appends report.text run.out → reports.on.loaded.ask ≡ ask.Repair
+    → IsReport (question.Repair reports.on.loaded.conflicts) reports.on.loaded.inputs report → SpendsOnRepair run
+spent_repair run report reports same written is answer = record {
+  of = modelled run report reports ask.Repair (question.Repair reports.on.loaded.conflicts) is answer;
+  report = report;
+  unrepaired = repair_laws.at_three _ _ _ _ _ report answer.told same;
+  written = written;
+}
+
+-- and what is told of an entry that is wanted: on whether the graph is deterministic, or on a later question
+spent_entry : (run : Run) (report : Report) (reports : Reports run.words run.held report) → report.status ≡ 3 → Appends report.text run.out → reports.on.loaded.ask ≡ ask.Ensures
+    → IsReport (question.Ensures reports.on.loaded.conflicts) reports.on.loaded.inputs report → SpendsConflicts run ⊎ SpendsOnEntry run
+spent_entry run report reports same written is answer =
+    let on = entry_on run report reports is answer in
+    elim (entry_laws.at_three _ _ _ _ _ _ report answer.told same) [
+      | inl unanswered ↦ inl (record { judged = on; report = report; unanswered = unanswered; written = written })
+      | inr spent ↦ inr (record { judged = on; asked = refl; report = report; unanswered = spent; written = written })
+    ]
+
 -- status 3 promises that the conflicts were spent, whatever was asked
 spends_of : (run : Run) → WritesReport run 3 → SpendsConflicts run ⊎ (SpendsOnRepair run ⊎ (SpendsOnEntry run ⊎ (SpendsOnComparison run ⊎ SpendsOnExplanation run)))
 spends_of run (report, reports, same, written, left) =
     elim (kind run report reports) [
-      | verdict f is answer ↦ elim answer.told.answer [
-        | inl sure ↦ absurd (omega (arith, same, sure.status))
-        | inr (inl different) ↦ absurd (omega (arith, same, different.status))
-        | inr (inr (inl changed)) ↦ absurd (omega (arith, same, changed.status))
-        | inr (inr (inr spent)) ↦
-            inl (record {
-              judged = verdict_on run report reports f is answer;
-              report = report;
-              unanswered = spent;
-              written = written;
-            })
+      | verdict f is answer ↦ inl (record { judged = verdict_on run report reports f is answer; report = report; unanswered = verdict_laws.at_three _ _ _ _ _ _ report answer.told same; written = written })
+      | entry is answer ↦ elim (spent_entry run report reports same written is answer) [
+        | inl first ↦ inl first
+        | inr later ↦ inr (inr (inl later))
       ]
-      | entry is answer ↦ elim answer.told.answer [
-        | inl held ↦ absurd (omega (arith, same, held.status))
-        | inr (inl different) ↦ absurd (omega (arith, same, different.status))
-        | inr (inr (inl missed)) ↦ absurd (omega (arith, same, missed.status))
-        | inr (inr (inr (inl spent))) ↦
-            inl (record {
-              judged = entry_on run report reports is answer;
-              report = report;
-              unanswered = spent;
-              written = written;
-            })
-        | inr (inr (inr (inr spent))) ↦
-            inr (inr (inl (record {
-              judged = entry_on run report reports is answer;
-              asked = refl;
-              report = report;
-              unanswered = spent;
-              written = written;
-            })))
-      ]
-      | repair is answer ↦ elim answer.told.answer [
-        | inl mended ↦ absurd (omega (arith, same, mended.status))
-        | inr spent ↦
-            inr (inl (record {
-              of = modelled run report reports ask.Repair (question.Repair reports.on.loaded.conflicts) is answer;
-              report = report;
-              unrepaired = spent;
-              written = written;
-            }))
-      ]
+      | repair is answer ↦ inr (inl (spent_repair run report reports same written is answer))
       | both is answer ↦ inr (inr (inr (inl (spent_comparison run report reports same written is answer))))
       | why is answer ↦ inr (inr (inr (inr (spent_explanation run report reports same written is answer))))
       | other zero not_verdict not_repair not_entry not_equal not_why ↦ absurd (omega (arith, same, zero))
@@ -358,10 +312,7 @@ mended_of run asks (report, reports, same, written, left) =
     elim (kind run report reports) [
       | verdict f is answer ↦ absurd (no_verdict_repairs f (sym is ∙ asked))
       | entry is answer ↦ absurd (no_repair_wants (sym asked ∙ is))
-      | repair is answer ↦ elim answer.told.answer [
-        | inl mended ↦ record { of = modelled run report reports ask.Repair (question.Repair reports.on.loaded.conflicts) is answer; report = report; repaired = mended; written = written }
-        | inr spent ↦ absurd (omega (arith, same, spent.status))
-      ]
+      | repair is answer ↦ record { of = modelled run report reports ask.Repair (question.Repair reports.on.loaded.conflicts) is answer; report = report; repaired = repair_laws.at_zero _ _ _ _ _ report answer.told same; written = written }
       | both is answer ↦ absurd (no_repair_compares (sym asked ∙ is))
       | why is answer ↦ absurd (no_repair_explains (sym asked ∙ is))
       | other zero not_verdict not_repair not_entry not_equal not_why ↦ absurd (not_repair asked)
@@ -373,13 +324,7 @@ leaves_of run asks (report, reports, same, written, left) =
     let asked = asked_for run report reports asks.0 asks.1 ∙ asks.2 in
     elim (kind run report reports) [
       | verdict f is answer ↦ absurd (no_verdict_wants f (sym is ∙ asked))
-      | entry is answer ↦ elim answer.told.answer [
-        | inl held ↦ record { judged = entry_on run report reports is answer; asked = refl; report = report; ensured = held; written = written }
-        | inr (inl different) ↦ absurd (omega (arith, same, different.status))
-        | inr (inr (inl missed)) ↦ absurd (omega (arith, same, missed.status))
-        | inr (inr (inr (inl spent))) ↦ absurd (omega (arith, same, spent.status))
-        | inr (inr (inr (inr spent))) ↦ absurd (omega (arith, same, spent.status))
-      ]
+      | entry is answer ↦ record { judged = entry_on run report reports is answer; asked = refl; report = report; ensured = entry_laws.at_zero _ _ _ _ _ _ report answer.told same; written = written }
       | repair is answer ↦ absurd (no_repair_wants (sym is ∙ asked))
       | both is answer ↦ absurd (no_entry_compares (sym asked ∙ is))
       | why is answer ↦ absurd (no_entry_explains (sym asked ∙ is))
@@ -390,23 +335,9 @@ leaves_of run asks (report, reports, same, written, left) =
 misses_of : (run : Run) → WritesReport run 9 → MissesEntry run
 misses_of run (report, reports, same, written, left) =
     elim (kind run report reports) [
-      | verdict f is answer ↦ elim answer.told.answer [
-        | inl sure ↦ absurd (omega (arith, same, sure.status))
-        | inr (inl different) ↦ absurd (omega (arith, same, different.status))
-        | inr (inr (inl changed)) ↦ absurd (omega (arith, same, changed.status))
-        | inr (inr (inr spent)) ↦ absurd (omega (arith, same, spent.status))
-      ]
-      | entry is answer ↦ elim answer.told.answer [
-        | inl held ↦ absurd (omega (arith, same, held.status))
-        | inr (inl different) ↦ absurd (omega (arith, same, different.status))
-        | inr (inr (inl missed)) ↦ record { judged = entry_on run report reports is answer; asked = refl; report = report; missed = missed; written = written }
-        | inr (inr (inr (inl spent))) ↦ absurd (omega (arith, same, spent.status))
-        | inr (inr (inr (inr spent))) ↦ absurd (omega (arith, same, spent.status))
-      ]
-      | repair is answer ↦ elim answer.told.answer [
-        | inl mended ↦ absurd (omega (arith, same, mended.status))
-        | inr spent ↦ absurd (omega (arith, same, spent.status))
-      ]
+      | verdict f is answer ↦ absurd (verdict_laws.not_high _ _ _ _ _ _ report answer.told 9 (omega arith) same)
+      | entry is answer ↦ record { judged = entry_on run report reports is answer; asked = refl; report = report; missed = entry_laws.at_nine _ _ _ _ _ _ report answer.told same; written = written }
+      | repair is answer ↦ absurd (repair_laws.not_high _ _ _ _ _ report answer.told 9 (omega arith) same)
       | both is answer ↦ absurd (compared_laws.not_nine _ _ _ _ _ _ _ _ _ report answer.told.answer same)
       | why is answer ↦ absurd (explained_laws.not_high _ _ _ _ _ report answer.told.told.answer 9 (omega arith) same)
       | other zero not_verdict not_repair not_entry not_equal not_why ↦ absurd (omega (arith, same, zero))
@@ -429,23 +360,9 @@ equal_of run asks (report, reports, same, written, left) =
 unequal_of : (run : Run) → WritesReport run 10 → DoOtherwise run
 unequal_of run (report, reports, same, written, left) =
     elim (kind run report reports) [
-      | verdict f is answer ↦ elim answer.told.answer [
-        | inl sure ↦ absurd (omega (arith, same, sure.status))
-        | inr (inl different) ↦ absurd (omega (arith, same, different.status))
-        | inr (inr (inl changed)) ↦ absurd (omega (arith, same, changed.status))
-        | inr (inr (inr spent)) ↦ absurd (omega (arith, same, spent.status))
-      ]
-      | entry is answer ↦ elim answer.told.answer [
-        | inl held ↦ absurd (omega (arith, same, held.status))
-        | inr (inl different) ↦ absurd (omega (arith, same, different.status))
-        | inr (inr (inl missed)) ↦ absurd (omega (arith, same, missed.status))
-        | inr (inr (inr (inl spent))) ↦ absurd (omega (arith, same, spent.status))
-        | inr (inr (inr (inr spent))) ↦ absurd (omega (arith, same, spent.status))
-      ]
-      | repair is answer ↦ elim answer.told.answer [
-        | inl mended ↦ absurd (omega (arith, same, mended.status))
-        | inr spent ↦ absurd (omega (arith, same, spent.status))
-      ]
+      | verdict f is answer ↦ absurd (verdict_laws.not_high _ _ _ _ _ _ report answer.told 10 (omega arith) same)
+      | entry is answer ↦ absurd (entry_laws.not_ten _ _ _ _ _ _ report answer.told same)
+      | repair is answer ↦ absurd (repair_laws.not_high _ _ _ _ _ report answer.told 10 (omega arith) same)
       | both is answer ↦ record { compared = compared run report reports is answer; report = report; unequal = compared_laws.at_ten _ _ _ _ _ _ _ _ _ report answer.told.answer same; written = written }
       | why is answer ↦ absurd (explained_laws.not_high _ _ _ _ _ report answer.told.told.answer 10 (omega arith) same)
       | other zero not_verdict not_repair not_entry not_equal not_why ↦ absurd (omega (arith, same, zero))

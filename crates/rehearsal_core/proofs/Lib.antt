@@ -1,4 +1,7 @@
 pub mod Telling
+pub mod VerdictLaws
+pub mod EntryLaws
+pub mod RepairLaws
 pub mod ComparedLaws
 pub mod ExplainedLaws
 pub mod HeadlineLaws
