@@ -4,10 +4,10 @@ use Rattle.std.specs.Prelude.{codes, slice_get, slice_index, not, nat_lt, ◌==�
 use Rattle.std.specs.List.{AllByRecursion, list_any}
 use Rattle.std.specs.Str.{bytes_eq}
 use Rattle.std.specs.Char.{to_ascii_lowercase}
-use Rattle.std.proofs.lemmas.Bool.{or_cases, ltb-true}
+use Rattle.std.proofs.lemmas.Bool.{or_cases, ltb-true, and_parts}
 use Rattle.std.proofs.lemmas.Str.{chars-IsAscii, encodes-IsAscii}
 use Rattle.std.proofs.lemmas.Str.Ascii.{IsAscii-cons}
-use Rattle.std.proofs.lemmas.Option.{slice_get-map}
+use Rattle.std.proofs.lemmas.Option.{slice_get-map, same_Some}
 use Rattle.std.proofs.lemmas.List.Elements.{Contains-get_or}
 use Rattle.std.proofs.lemmas.Slice.Eq.{bytes_eq-Decides}
 use Rattle.pp_value.specs.declared.value.Ref.{Ref}
@@ -22,7 +22,6 @@ use Rattle.graph_semantics.specs.Automatic.{IsPlainAt}
 use Rattle.graph_semantics.specs.Graphs.{plain_from, plain_places, reference_of}
 use Rattle.graph_semantics.proofs.RealPlaces.{plain_at, stands}
 use Rattle.allowed_order.specs.AllowedOrder.{AreToldApart}
-use Rattle.allowed_order.proofs.NameLaws.{same_some}
 
 -- ---- what a reference tells
 
@@ -57,16 +56,10 @@ abbrev all_low : List ℕ → Bool
 all_low [] = true
 all_low (b ∷ bytes) = nat_lt b 128 && all_low bytes
 
--- where a conjunction holds both sides do
-both_parts : (a b : Bool) → (a && b) ≡ true → (a ≡ true) × (b ≡ true)
-both_parts true true e = (refl, refl)
-both_parts true false e = cc
-both_parts false b e = cc
-
 -- a text that is told to be ASCII is
 is_ascii : (bytes : List ℕ) → all_low bytes ≡ true → IsAscii bytes
 is_ascii [] h = λ k. omega arith
-is_ascii (b ∷ bytes) h = let parts = both_parts (nat_lt b 128) (all_low bytes) h in IsAscii-cons b bytes (ltb-true b 128 parts.0) (is_ascii bytes parts.1)
+is_ascii (b ∷ bytes) h = let parts = and_parts (nat_lt b 128) (all_low bytes) h in IsAscii-cons b bytes (ltb-true b 128 parts.0) (is_ascii bytes parts.1)
 
 -- a type of ASCII letters is shown with its capital
 told : (kind : List ℕ) → all_low kind ≡ true → all_low (with_capitals true kind) ≡ true
@@ -142,7 +135,7 @@ one_position n (p ∷ places) (suc i) (suc j) up h k same = ap suc (one_position
 -- a resource of sound ones is sound
 sound_at : (resources : List Resource) (place : ℕ) (r : Resource) → AreSound resources → slice_get resources place ≡ Some r → IsSound r
 sound_at [] place r h at = cc
-sound_at (q ∷ resources) zero r h at = subst IsSound (same_some q r at) h.0
+sound_at (q ∷ resources) zero r h at = subst IsSound (same_Some q r at) h.0
 sound_at (q ∷ resources) (suc place) r h at = sound_at resources place r h.1 at
 
 -- where references stand once, each has one place

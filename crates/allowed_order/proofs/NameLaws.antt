@@ -1,5 +1,6 @@
 -- What the names of plain resources find: where each has one of its own, its position.
 use Rattle.std.proofs.Common.{◌≡◌, ℕ, zero, suc, ◌+◌, ◌<◌, ◌≤◌, Bool, true, false, cond, List, [], ◌∷◌, ◌++◌, length, drop, ◌⊎◌, inl, inr, Option, Some, None, is_some, refl, sym, ap, subst, ◌∙◌, arith, add-one}
+use Rattle.std.proofs.lemmas.Option.{none-some, same_Some}
 use Rattle.std.specs.Prelude.{slice_index}
 use Rattle.std.specs.Str.{bytes_eq}
 use Rattle.std.proofs.lemmas.Slice.Eq.{bytes_eq-Decides}
@@ -8,22 +9,14 @@ use Rattle.graph_semantics.specs.Graphs.{reference_at}
 use Rattle.allowed_order.specs.Names.{position_of, with_name, with_names}
 use Rattle.allowed_order.specs.AllowedOrder.{shown_at, AreToldApart}
 
--- nothing isn't something
-pub no_value : {X : Type 0} (x : X) → None ≡ Some x → ⊥
-no_value x h = cc
-
--- equal things as found are equal
-pub same_some : {X : Type 0} (x y : X) → ◌≡◌ {A = Option X} (Some x) (Some y) → x ≡ y
-same_some x y h = cc
-
 -- ---- one name more at the end
 
 -- what is found with one more name is found without it, or is that one
 last_or_front : (t u : List ℕ) (i j : ℕ) (names : List (List ℕ × ℕ)) → position_of t (names ++ (u, j) ∷ []) ≡ Some i → (position_of t names ≡ Some i) ⊎ ((t ≡ u) × (j ≡ i))
 last_or_front t u i j [] h = at (bytes_eq t u) refl h where
   at : (b : Bool) → bytes_eq t u ≡ b → cond b (Some j) None ≡ Some i → (None ≡ Some i) ⊎ ((t ≡ u) × (j ≡ i))
-  at true e k = inr ((bytes_eq-Decides t u).0 e, same_some j i k)
-  at false e k = absurd (no_value i k)
+  at true e k = inr ((bytes_eq-Decides t u).0 e, same_Some j i k)
+  at false e k = absurd (none-some i k)
 last_or_front t u i j (n ∷ names) h = at (last_or_front t u i j names) (bytes_eq t n.0) h where
   at : (position_of t (names ++ (u, j) ∷ []) ≡ Some i → (position_of t names ≡ Some i) ⊎ ((t ≡ u) × (j ≡ i)))
       → (b : Bool) → cond b (Some n.1) (position_of t (names ++ (u, j) ∷ [])) ≡ Some i → (cond b (Some n.1) (position_of t names) ≡ Some i) ⊎ ((t ≡ u) × (j ≡ i))
@@ -32,7 +25,7 @@ last_or_front t u i j (n ∷ names) h = at (last_or_front t u i j names) (bytes_
 
 -- what is found is found with one more
 stays_front : (t u : List ℕ) (i j : ℕ) (names : List (List ℕ × ℕ)) → position_of t names ≡ Some i → position_of t (names ++ (u, j) ∷ []) ≡ Some i
-stays_front t u i j [] h = absurd (no_value i h)
+stays_front t u i j [] h = absurd (none-some i h)
 stays_front t u i j (n ∷ names) h = at (stays_front t u i j names) (bytes_eq t n.0) h where
   at : (position_of t names ≡ Some i → position_of t (names ++ (u, j) ∷ []) ≡ Some i)
       → (b : Bool) → cond b (Some n.1) (position_of t names) ≡ Some i → cond b (Some n.1) (position_of t (names ++ (u, j) ∷ [])) ≡ Some i
@@ -45,7 +38,7 @@ found_last t j [] h = ap (λ b. cond b (Some j) None) ((bytes_eq-Decides t t).1 
 found_last t j (n ∷ names) h = at (found_last t j names) (bytes_eq t n.0) h where
   at : (position_of t names ≡ None → position_of t (names ++ (t, j) ∷ []) ≡ Some j)
       → (b : Bool) → cond b (Some n.1) (position_of t names) ≡ None → cond b (Some n.1) (position_of t (names ++ (t, j) ∷ [])) ≡ Some j
-  at more true k = absurd (no_value n.1 (sym k))
+  at more true k = absurd (none-some n.1 (sym k))
   at more false k = more k
 
 -- ---- a place of a list
@@ -154,7 +147,7 @@ finds_all c all n (place ∷ plain) names apart h tells finds =
 
 -- without names nothing is found
 no_names : (c : Catalog) (all : List ℕ) → Tells c all []
-no_names c all t i h = absurd (no_value i h)
+no_names c all t i h = absurd (none-some i h)
 
 -- what the names of all plain resources find is right
 pub names_tell : (c : Catalog) (all : List ℕ) → Tells c all (with_names c 0 all [])

@@ -1,5 +1,6 @@
 -- The order that texts name is found, and no other.
 use Rattle.std.proofs.Common.{◌≡◌, ℕ, ◌<◌, List, [], ◌∷◌, length, map, Option, Some, None, option_map, refl, sym, ap, subst, ◌∙◌, codes}
+use Rattle.std.proofs.lemmas.Option.{none-some, same_Some}
 use Rattle.std.specs.List.{AllByRecursion}
 use Rattle.rh_base.specs.Reading.{◌>>=◌}
 use Rattle.rh_base.specs.Refused.{IfRefused, IsRefusal}
@@ -10,24 +11,24 @@ use Rattle.catalog_semantics.specs.Catalogs.{Catalog}
 use Rattle.order_text.specs.OrderText.{IsOrderText}
 use Rattle.allowed_order.specs.Names.{position_of, with_names, positions_of}
 use Rattle.allowed_order.specs.AllowedOrder.{shown_at, AreToldApart, IsOrderNamed, IsOrderOf, IsOnlyOrder}
-use Rattle.allowed_order.proofs.NameLaws.{no_value, same_some, Tells, Finds, names_tell, names_find}
+use Rattle.allowed_order.proofs.NameLaws.{Tells, Finds, names_tell, names_find}
 
 -- where two steps find something, the first did and the second went on from it
 step : {X Y : Type 0} (o : Option X) (f : X → Option Y) (y : Y) → (o >>= f) ≡ Some y → (x : X) × (o ≡ Some x) × (f x ≡ Some y)
-step None f y h = absurd (no_value y h)
+step None f y h = absurd (none-some y h)
 step (Some x) f y h = (x, refl, h)
 
 -- an image comes from something
 mapped : {X Y : Type 0} (f : X → Y) (o : Option X) (y : Y) → option_map f o ≡ Some y → (x : X) × (o ≡ Some x) × (f x ≡ y)
-mapped f None y h = absurd (no_value y h)
-mapped f (Some x) y h = (x, refl, same_some (f x) y h)
+mapped f None y h = absurd (none-some y h)
+mapped f (Some x) y h = (x, refl, same_Some (f x) y h)
 
 -- ---- what texts name
 
 module _ (c : Catalog) (all : List ℕ) (names : List (List ℕ × ℕ)) where
   -- texts whose positions are found are the references shown there
   texts_shown : Tells c all names → (texts : List (List ℕ)) (o : List ℕ) → positions_of names texts ≡ Some o → texts ≡ map (shown_at c all) o
-  texts_shown tells [] o h = ap (map (shown_at c all)) (same_some [] o h)
+  texts_shown tells [] o h = ap (map (shown_at c all)) (same_Some [] o h)
   texts_shown tells (t ∷ texts) o h =
       let first = step (position_of t names) (λ i. option_map (λ is. i ∷ is) (positions_of names texts)) o h in
       let rest = mapped (λ is. first.0 ∷ is) (positions_of names texts) o first.2 in
@@ -60,19 +61,19 @@ order_is c plain before texts o apart h =
 
 -- texts that name no positions
 pub none_named : (c : Catalog) (plain : List ℕ) (before : ℕ → ℕ → Type 0) (texts : List (List ℕ)) → positions_of (with_names c 0 plain []) texts ≡ None → IsOnlyOrder c plain before texts None
-none_named c plain before texts h apart o named = no_value o (sym h ∙ order_is c plain before texts o apart named)
+none_named c plain before texts h apart o named = none-some o (sym h ∙ order_is c plain before texts o apart named)
 
 -- texts that name positions which are no allowed order
 pub none_allowed : (c : Catalog) (plain : List ℕ) (before : ℕ → ℕ → Type 0) (texts : List (List ℕ)) (p : List ℕ) → positions_of (with_names c 0 plain []) texts ≡ Some p
     → (IsLinearExtension (length plain) before p → ⊥) → IsOnlyOrder c plain before texts None
 none_allowed c plain before texts p h never apart o named =
-    never (subst (IsLinearExtension (length plain) before) (same_some o p (sym (order_is c plain before texts o apart named) ∙ h)) named.allowed)
+    never (subst (IsLinearExtension (length plain) before) (same_Some o p (sym (order_is c plain before texts o apart named) ∙ h)) named.allowed)
 
 -- positions in an allowed order are the one order that the texts name
 pub only_order : (c : Catalog) (plain : List ℕ) (before : ℕ → ℕ → Type 0) (texts : List (List ℕ)) (p : List ℕ) → positions_of (with_names c 0 plain []) texts ≡ Some p
     → IsLinearExtension (length plain) before p → IsOnlyOrder c plain before texts (Some p)
 only_order c plain before texts p h allowed =
-    (order_found c plain before texts p h allowed, λ apart o named. same_some p o (sym h ∙ order_is c plain before texts o apart named))
+    (order_found c plain before texts p h allowed, λ apart o named. same_Some p o (sym h ∙ order_is c plain before texts o apart named))
 
 -- ---- as the code has it
 

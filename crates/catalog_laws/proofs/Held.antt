@@ -1,5 +1,6 @@
 -- Resources keep their sort, their holder and their reference, and their place; so what holds them stays a container.
 use Rattle.std.proofs.Common.{◌≡◌, ◌⊎◌, inl, inr, ℕ, zero, suc, ◌+◌, Bool, true, false, cond, List, [], ◌∷◌, ◌++◌, map, Option, Some, None, Ok}
+use Rattle.std.proofs.lemmas.Bool.{and_parts}
 use Rattle.std.proofs.Common.{refl, sym, ap, ap₂, subst, ◌∙◌, append_assoc, arith}
 use Rattle.std.specs.Prelude.{◌&&◌, IfSome, slice_get}
 use Rattle.std.specs.List.{AllByRecursion}
@@ -225,15 +226,10 @@ bodies place s t u at h k = record {
 
 -- ---- the place of a class
 
--- where a conjunction holds both sides do
-both_true : (a b : Bool) → (a && b) ≡ true → (a ≡ true) × (b ≡ true)
-both_true true b h = (refl, h)
-both_true false b h = cc
-
 -- references that are told to be the same are
 same_is : (q r : Ref) → same_ref q r ≡ true → q ≡ r
 same_is q r h =
-    let both = both_true (bytes_eq q.kind r.kind) (bytes_eq q.title r.title) h in
+    let both = and_parts (bytes_eq q.kind r.kind) (bytes_eq q.title r.title) h in
     ap₂ (λ k t. record { kind = k; title = t }) ((bytes_eq-Decides q.kind r.kind).0 both.0) ((bytes_eq-Decides q.title r.title).0 both.1)
 
 -- the reference stands at this place, which is counted from n on

@@ -1,6 +1,6 @@
 -- A number in the words is from 1 to the greatest one.
 use Rattle.std.proofs.Common.{◌≡◌, ◌≤◌, ◌+◌, ◌-◌, ◌*◌, ◌==◌, ◌&&◌, ℕ, Bool, true, false, cond, nat_le, List, [], ◌∷◌, Option, Some, None, refl, arith, leb-true}
-use Rattle.std.proofs.lemmas.Bool.{eqb-false}
+use Rattle.std.proofs.lemmas.Bool.{eqb-false, and_parts}
 use Rattle.command_line.specs.Words.{digits_within, number_in}
 
 -- what a test guards
@@ -13,19 +13,13 @@ barred : {X : Type 0} (b : Bool) (x : Option X) (y : X) → cond b None x ≡ So
 barred true x y h = cc
 barred false x y h = (refl, h)
 
--- of a conjunction that is true both sides are true
-both : (a b : Bool) → (a && b) ≡ true → (a ≡ true) × (b ≡ true)
-both true true h = (refl, refl)
-both true false h = cc
-both false b h = cc
-
 -- a digit, and what is behind it
 one_digit : (most n b m : ℕ) (word : List ℕ) → digits_within most n (b ∷ word) ≡ Some m
     → (48 ≤ b) × (10 * n + (b - 48) ≤ most) × (digits_within most (10 * n + (b - 48)) word ≡ Some m)
 one_digit most n b m word h =
     let outer = guarded (nat_le 48 b && nat_le b 57) (cond (nat_le (10 * n + (b - 48)) most) (digits_within most (10 * n + (b - 48)) word) None) m h in
     let inner = guarded (nat_le (10 * n + (b - 48)) most) (digits_within most (10 * n + (b - 48)) word) m outer.1 in
-    let digit = both (nat_le 48 b) (nat_le b 57) outer.0 in
+    let digit = and_parts (nat_le 48 b) (nat_le b 57) outer.0 in
     (leb-true 48 b digit.0, leb-true (10 * n + (b - 48)) most inner.0, inner.1)
 
 -- digits behind a number tell no lesser one

@@ -5,7 +5,7 @@ use Rattle.std.specs.List.{AllByRecursion}
 use Rattle.std.proofs.Math.Seq.{take-suc}
 use Rattle.std.proofs.lemmas.Bool.{lt-ltb}
 use Rattle.std.proofs.lemmas.List.{drop_more, length-take-le}
-use Rattle.std.proofs.lemmas.Option.{slice_get_within}
+use Rattle.std.proofs.lemmas.Option.{slice_get_within, same_Some, none-some}
 use Rattle.rh_base.specs.declared.fault.Fault.{Fault}
 use Rattle.rh_base.specs.declared.fault.Fault.TheVariants as fault
 use Rattle.rh_base.specs.declared.fault.Refusal.{Refusal}
@@ -28,18 +28,10 @@ use Rattle.compiled_catalog.specs.Steps.{catalog_with, HasFirst}
 
 -- ---- places
 
--- equal things as found are equal
-one_some : {X : Type 0} (x y : X) → ◌≡◌ {A = Option X} (Some x) (Some y) → x ≡ y
-one_some x y h = cc
-
--- nothing isn't something
-nothing : {X : Type 0} (x : X) → ◌≡◌ {A = Option X} None (Some x) → ⊥
-nothing x h = cc
-
 -- what stands at a place is read there
 read_at : (rs : List CompiledResource) (i : ℕ) (r : CompiledResource) → slice_get rs i ≡ Some r → get_or rs i r ≡ r
 read_at [] i r h = refl
-read_at (x ∷ rs) zero r h = one_some x r h
+read_at (x ∷ rs) zero r h = same_Some x r h
 read_at (x ∷ rs) (suc i) r h = read_at rs i r h
 
 -- what is read within the list stands there
@@ -80,13 +72,13 @@ mapped_count f (r ∷ rs) = ap suc (mapped_count f rs)
 
 -- what differs from all references differs from that of each resource
 other_at : (q : Ref) (rs : List CompiledResource) (i : ℕ) (r : CompiledResource) → AllByRecursion (λ p. q ≢ p) (map counts_as rs) → slice_get rs i ≡ Some r → q ≢ counts_as r
-other_at q [] i r h e = absurd (nothing r e)
-other_at q (x ∷ rs) zero r h e = λ k. h.0 (k ∙ sym (ap counts_as (one_some x r e)))
+other_at q [] i r h e = absurd (none-some r e)
+other_at q (x ∷ rs) zero r h e = λ k. h.0 (k ∙ sym (ap counts_as (same_Some x r e)))
 other_at q (x ∷ rs) (suc i) r h e = other_at q rs i r h.1 e
 
 -- no earlier resource of those that differ counts as this one
 is_new : (rs : List CompiledResource) (i : ℕ) (r : CompiledResource) → AreDistinct (map counts_as rs) → slice_get rs i ≡ Some r → stands_in (counts_as r) (map counts_as (take i rs)) ≡ false
-is_new [] i r d h = absurd (nothing r h)
+is_new [] i r d h = absurd (none-some r h)
 is_new (x ∷ rs) zero r d h = refl
 is_new (x ∷ rs) (suc i) r d h = ap₂ (λ a b. a || b) (differs (counts_as x) (counts_as r) (other_at (counts_as x) rs i r d.0 h)) (is_new rs i r d.1 h)
 

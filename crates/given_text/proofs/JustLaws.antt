@@ -1,5 +1,6 @@
 -- The folders of paths, and no others.
 use Rattle.std.proofs.Common.{◌≡◌, ◌≢◌, ◌↔◌, ◌⊎◌, inl, inr, ℕ, Bool, true, false, true≢false, cond, ◌||◌, List, [], ◌∷◌, ◌++◌, map, Option, Some, None, is_some, append_assoc, refl, sym, ap, subst, ◌∙◌}
+use Rattle.std.proofs.lemmas.Option.{same_Some, none-some}
 use Rattle.std.specs.Prelude.{IsTrue}
 use Rattle.std.specs.List.{list_any, AllByRecursion}
 use Rattle.std.specs.FinMap as finite
@@ -15,14 +16,6 @@ use Rattle.given_text.specs.Reading.{fronts, with_folders, with_paths}
 -- nothing stands in the empty tree
 nothing_at : (p : Path) → finite.get {X = Entry} (finite.empty {R = path_cmp}) p ≡ None
 nothing_at p = get-empty path_cmp p
-
--- what is there twice is one
-same_some : {X : Type 0} (x y : X) → ◌≡◌ {A = Option X} (Some x) (Some y) → x ≡ y
-same_some x y h = cc
-
--- what isn't there is no value
-no_value : {X : Type 0} (x : X) → ◌≡◌ {A = Option X} None (Some x) → ⊥
-no_value x h = cc
 
 -- a choice of the same under one condition or else another is a choice under either
 merged : {X : Type 0} (a b : Bool) (x y : X) → cond b x (cond a x y) ≡ cond (a || b) x y
@@ -136,8 +129,8 @@ is_above_one (q ∷ paths) p n (inr later) = later_or (is_among p (fronts q)) (i
 
 -- where nothing stood, what stands now is a folder, and the condition holds
 stands : (b : Bool) (o : Option Entry) (x : Entry) → o ≡ None → cond b (Some Folder) o ≡ Some x → IsTrue b × (x ≡ Folder)
-stands true o x none h = (refl, sym (same_some Folder x h))
-stands false o x none h = absurd (no_value x (sym none ∙ h))
+stands true o x none h = (refl, sym (same_Some Folder x h))
+stands false o x none h = absurd (none-some x (sym none ∙ h))
 
 -- and under the condition a folder does
 stood : (b : Bool) (o : Option Entry) (x : Entry) → IsTrue b → x ≡ Folder → cond b (Some Folder) o ≡ Some x

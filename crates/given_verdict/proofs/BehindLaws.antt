@@ -44,11 +44,6 @@ run_is given es o steps h = ap Steps (programs_are steps ∙ ap as_steps h ∙ a
 
 -- ---- a second run in an order
 
--- nothing is both false and true
-pub off : (b : Bool) → b ≡ false → b ≡ true → ⊥
-off true h k = cc
-off false h k = cc
-
 -- a run ends in Error, or in a tree
 ended : (r : Outcome) → (r ≡ None) ⊎ ((u : Tree) × (r ≡ Some u))
 ended None = inl refl

@@ -1,5 +1,6 @@
 -- Behind the guard the given folders stand, where no program removes one; so the guard commutes with each program.
 use Rattle.std.proofs.Common.{◌≡◌, ◌⊎◌, inl, inr, ℕ, ◌<◌, Bool, true, false, ◌&&◌, ◌||◌, List, [], ◌∷◌, ◌++◌, length, get_or, Some, None, refl, sym, ap, subst, ◌∙◌, arith}
+use Rattle.std.proofs.lemmas.Bool.{or_cases}
 use Rattle.std.specs.Prelude.{IsTrue, Option, IfSome}
 use Rattle.std.specs.List.{AllByRecursion}
 use Rattle.fs_semantics.specs.FileTree.{Path, Tree, is_dir, is_among, parent, path_eq}
@@ -17,11 +18,6 @@ use Rattle.settled_groups.specs.Groups.{CommuteWhereSure}
 use Rattle.given_verdict.specs.Keeping.{Spares}
 
 -- ---- the guard makes sure of the given folders
-
--- where one of two holds, it is the first or the second
-or_cases : (a b : Bool) → (a || b) ≡ true → (a ≡ true) ⊎ (b ≡ true)
-or_cases true b h = inl refl
-or_cases false b h = inr h
 
 -- whether it is the folder, whether it lies right above it, and whether it stood
 table : (a b s : Bool) → (a ≡ true) ⊎ (s ≡ true) → (((a || (b || false)) || (((a || (b || false)) || s) && true)) && (a || (b || (((a || (b || false)) || s) && true)))) ≡ true

@@ -1,5 +1,6 @@
 -- Programs that have no removal of a given folder leave them standing.
 use Rattle.std.proofs.Common.{◌≡◌, Bool, true, false, ◌||◌, List, [], ◌∷◌, map, Some, inl, inr, refl}
+use Rattle.std.proofs.lemmas.Bool.{or_right, or_left}
 use Rattle.std.specs.Prelude.{IsTrue}
 use Rattle.std.specs.List.{AllByRecursion}
 use Rattle.fs_semantics.specs.FileTree.{Path, Tree, is_dir, is_among, path_eq}
@@ -31,22 +32,12 @@ spares_choice given a e f h k p among (inr m) = k p among m
 abbrev Kept : Type 0
 Kept = (e : Program) (p : Path) (t u : Tree) → (MayRemove e p → ⊥) → IsTrue (is_dir t p) → run e t ≡ Some u → IsTrue (is_dir u p)
 
--- one of two holds where the second does
-among_more : (a b : Bool) → b ≡ true → (a || b) ≡ true
-among_more true b h = refl
-among_more false b h = h
-
--- one of two holds where the first does
-among_here : (a b : Bool) → a ≡ true → (a || b) ≡ true
-among_here true b h = refl
-among_here false b h = cc
-
 -- given folders stand behind a program that spares them, where they stood before
 stands : (kept : Kept) (given : List Path) (e : Program) → Spares given e → (t u : Tree) → Stand given t → run e t ≡ Some u → Stand given u
 stands kept [] e spares t u h done = tt
 stands kept (p ∷ given) e spares t u h done = (
-  kept e p t u (spares p (among_here (path_eq p p) (is_among p given) (path_eq_refl p))) h.0 done,
-  stands kept given e (λ q among m. spares q (among_more (path_eq q p) (is_among q given) among) m) t u h.1 done,
+  kept e p t u (spares p (or_left (path_eq p p) (is_among p given) (path_eq_refl p))) h.0 done,
+  stands kept given e (λ q among m. spares q (or_right (path_eq q p) (is_among q given) among) m) t u h.1 done,
 )
 
 -- programs that spare given folders leave them standing

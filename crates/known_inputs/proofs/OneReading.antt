@@ -1,5 +1,6 @@
 -- Files say one thing, or one of them is refused, but not both.
 use Rattle.std.proofs.Common.{◌≡◌, ℕ, Bool, true, false, List, Option, Some, None, refl, sym, ap, subst, ◌∙◌}
+use Rattle.std.proofs.lemmas.Bool.{both_ways}
 use Rattle.std.proofs.lemmas.Option.{same_Some}
 use Rattle.rh_base.specs.declared.fault.Refusal.{Refusal}
 use Rattle.fs_semantics.specs.FileTree.{Path, Tree}
@@ -130,10 +131,6 @@ begins_well : (told : Option Tree) (folders : List Path) (t : Tree) (r : Refusal
 begins_well None folders t r begins lacking = lacking
 begins_well (Some told) folders t r begins lacking = lacking.1 (subst (Stand folders) begins.0 begins.1)
 
--- what is wanted isn't both edited and not
-edited_well : (edited : Bool) → edited ≡ false → edited ≡ true → ⊥
-edited_well edited not is = let no : ◌≡◌ {A = Bool} false true = sym not ∙ is in cc
-
 -- what resources edit, as the files say it
 same_edits : OneCompiled → OneAssumed → (i : Inputs) (k : Known) (is : IsKnown i k) (t : Option Tree) (c : Option Compiled) (rows : List Assumption) → AreNamed i t c rows → edited_in c rows ≡ edited_in is.compiled k.assumed
 same_edits catalogs assumptions i k is t c rows named =
@@ -151,13 +148,13 @@ none_refused trees catalogs assumptions givens i k r is (FirstUnread.compiled x 
 none_refused trees catalogs assumptions givens i k r is (FirstUnread.assumed x packages levels t c told is_tree is_compiled none) = none.none k.assumed is.named.assumed
 none_refused trees catalogs assumptions givens i k r is (FirstUnread.edited x packages levels t c rows told named wants) =
     let same = same_edits catalogs assumptions i k is t c rows named in
-    edited_well (wants_edited (λ p. p) i.wanted (edited_in is.compiled k.assumed)) is.apart (subst (λ edited. wants_edited (λ p. p) i.wanted edited ≡ true) same wants.wants)
+    both_ways (wants_edited (λ p. p) i.wanted (edited_in is.compiled k.assumed)) is.apart (subst (λ edited. wants_edited (λ p. p) i.wanted edited ≡ true) same wants.wants)
 none_refused trees catalogs assumptions givens i k r is (FirstUnread.given x packages levels t c rows told named none) = none.none k.given is.given
 none_refused trees catalogs assumptions givens i k r is (FirstUnread.edited_as_read x packages levels t c rows g told named is_given wants) =
     let same = same_edits catalogs assumptions i k is t c rows named in
     let said = one_given givens (bytes_of role.Given i) g k.given is_given is.given in
     let wants_here = subst (λ (h : Given). wants_edited (read_as h.links) i.wanted (edited_in c rows) ≡ true) said wants.wants in
-    edited_well (wants_edited (read_as k.given.links) i.wanted (edited_in is.compiled k.assumed)) is.apart_as_read
+    both_ways (wants_edited (read_as k.given.links) i.wanted (edited_in is.compiled k.assumed)) is.apart_as_read
     (subst (λ edited. wants_edited (read_as k.given.links) i.wanted edited ≡ true) same wants_here)
 none_refused trees catalogs assumptions givens i k r is (FirstUnread.lacks x packages levels t c rows g told named is_given lacking) =
     let same = one_tree trees (bytes_of role.Tree i) t is.tree named.tree is.named.tree in

@@ -1,6 +1,6 @@
 -- A text in single quotes is written with the fewest backslashes.
 use Rattle.std.proofs.Common.{◌≡◌, ◌≢◌, inl, inr, ℕ, ◌+◌, ◌≤◌, Bool, true, false, cond, ◌||◌, ◌&&◌, ◌==◌, List, [], ◌∷◌, ◌++◌, length, refl, sym, ap, subst, ◌∙◌, arith}
-use Rattle.std.proofs.lemmas.Bool.{or_cases, or_left, or_right, and_parts, eqb-true, eqb-false, ne_eqb}
+use Rattle.std.proofs.lemmas.Bool.{or_cases, or_left, or_right, or_parts, and_parts, eqb-true, eqb-false, ne_eqb}
 use Rattle.pp_syntax.specs.Tokens.{SqText}
 use Rattle.pp_syntax.specs.TokenValues.{sq_value, sq_escaped, SqOf}
 use Rattle.pp_print.specs.Words.{escapes, must_escape, escaped}
@@ -26,11 +26,7 @@ plain_byte b v n m = ap (λ t. t || ((b == 92) && escapes v)) (ne_eqb b 39 m) �
 
 -- what needn't be escaped is no quote
 no_quote : (b : ℕ) (v : List ℕ) → must_escape b v ≡ false → b ≢ 39
-no_quote b v h = eqb-false b 39 (or_no_left (b == 39) ((b == 92) && escapes v) h)
-  where
-    or_no_left : (x y : Bool) → (x || y) ≡ false → x ≡ false
-    or_no_left true y e = cc
-    or_no_left false y e = refl
+no_quote b v h = eqb-false b 39 (or_parts (b == 39) ((b == 92) && escapes v) h).0
 
 -- behind a backslash that needn't be escaped stands nothing to be escaped
 no_escapes : (b : ℕ) (v : List ℕ) → b ≡ 92 → must_escape b v ≡ false → escapes v ≡ false
@@ -38,15 +34,9 @@ no_escapes b v e h = sym (ap (λ t. must_escape t v) e) ∙ h
 
 -- what stands there begins with neither a backslash nor a quote
 escapes_special : (c : ℕ) (v : List ℕ) → escapes (c ∷ v) ≡ false → (c ≢ 92) × (c ≢ 39)
-escapes_special c v h = (eqb-false c 92 (left (c == 92) (c == 39) h), eqb-false c 39 (right (c == 92) (c == 39) h))
-  where
-    left : (x y : Bool) → (x || y) ≡ false → x ≡ false
-    left true y e = cc
-    left false y e = refl
-
-    right : (x y : Bool) → (x || y) ≡ false → y ≡ false
-    right true y e = cc
-    right false y e = e
+escapes_special c v h =
+    let neither = or_parts (c == 92) (c == 39) h in
+    (eqb-false c 92 neither.0, eqb-false c 39 neither.1)
 
 -- what a byte and the text behind it are written as
 abbrev Reads : List ℕ → List ℕ → Type 0

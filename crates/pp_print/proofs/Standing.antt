@@ -3,7 +3,7 @@ use Rattle.std.proofs.Common.{◌≡◌, inl, inr, ℕ, ◌<◌, ◌^◌, Bool, 
 use Rattle.std.specs.Prelude.{codes}
 use Rattle.std.specs.List.{AllByRecursion}
 use Rattle.std.specs.Str.{bytes_eq}
-use Rattle.std.proofs.lemmas.Bool.{ne_eqb, both_ways}
+use Rattle.std.proofs.lemmas.Bool.{ne_eqb, both_ways, or_parts}
 use Rattle.pp_syntax.specs.declared.token.Kind.{Kind}
 use Rattle.pp_syntax.specs.declared.token.Kind.TheVariants as kind
 use Rattle.pp_syntax.specs.declared.lexer.place.Place.{Place}
@@ -38,15 +38,9 @@ no_dash_segment (b ∷ s) h = ap (λ v. v || has_dash s) (no_dash_first b h.0) �
 -- two texts without a dash make one without
 no_dash_append : (s t : List ℕ) → has_dash s ≡ false → has_dash t ≡ false → has_dash (s ++ t) ≡ false
 no_dash_append [] t h k = k
-no_dash_append (b ∷ s) t h k = ap (λ v. v || has_dash (s ++ t)) (left (b == 45) (has_dash s) h) ∙ no_dash_append s t (right (b == 45) (has_dash s) h) k
-  where
-    left : (x y : Bool) → (x || y) ≡ false → x ≡ false
-    left true y e = cc
-    left false y e = refl
-
-    right : (x y : Bool) → (x || y) ≡ false → y ≡ false
-    right true y e = cc
-    right false y e = e
+no_dash_append (b ∷ s) t h k =
+    let neither = or_parts (b == 45) (has_dash s) h in
+    ap (λ v. v || has_dash (s ++ t)) neither.0 ∙ no_dash_append s t neither.1 k
 
 -- segments of a variable's name have none
 no_dash_joined : (s : List ℕ) → Joined style.Var s → has_dash s ≡ false

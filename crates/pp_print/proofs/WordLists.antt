@@ -1,5 +1,6 @@
 -- The words of a list, and of numbers and names, may stand one behind the other.
 use Rattle.std.proofs.Common.{◌≡◌, inl, inr, ℕ, ◌<◌, ◌^◌, Bool, true, false, cond, ◌||◌, ◌==◌, List, [], ◌∷◌, ◌++◌, refl, sym, ap, subst, ◌∙◌}
+use Rattle.std.proofs.lemmas.Bool.{or_parts}
 use Rattle.std.specs.Prelude.{codes, pos, decimal}
 use Rattle.std.specs.List.{AllByRecursion, flat_map, join_by}
 use Rattle.pp_syntax.specs.declared.token.Kind.{Kind}
@@ -45,16 +46,9 @@ both_fine U (t ∷ ts) us h =
 no_dash_both : (s t : List ℕ) → has_dash (s ++ t) ≡ false → (has_dash s ≡ false) × (has_dash t ≡ false)
 no_dash_both [] t h = (refl, h)
 no_dash_both (b ∷ s) t h =
-    let r = no_dash_both s t (right (b == 45) (has_dash (s ++ t)) h) in
-    (ap (λ v. v || has_dash s) (left (b == 45) (has_dash (s ++ t)) h) ∙ r.0, r.1)
-  where
-    left : (x y : Bool) → (x || y) ≡ false → x ≡ false
-    left true y e = cc
-    left false y e = refl
-
-    right : (x y : Bool) → (x || y) ≡ false → y ≡ false
-    right true y e = cc
-    right false y e = e
+    let neither = or_parts (b == 45) (has_dash (s ++ t)) h in
+    let rest = no_dash_both s t neither.1 in
+    (ap (λ v. v || has_dash s) neither.0 ∙ rest.0, rest.1)
 
 -- what goes on with a word and is no dash is a letter, a digit or `_`
 name_byte : (b : ℕ) → (is_name b || (b == 45)) ≡ true → (b == 45) ≡ false → is_name b ≡ true

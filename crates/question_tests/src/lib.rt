@@ -14,7 +14,6 @@ mod given;
 #[cfg(test)]
 mod judging;
 #[cfg(test)]
-#[cfg(test)]
 mod pairs;
 #[cfg(test)]
 mod programs;

@@ -93,8 +93,3 @@ kept_after d old new e text h = subst (λ xs. HasText xs text) (sym e) (kept_pla
 -- and that of the difference's path
 pub there_after : (d : Difference) (old new : List Difference) → new ≡ placed d old → d.text ≡ path_text d.path.now → HasText new (path_text d.path.now)
 there_after d old new e text = subst (λ xs. HasText xs (path_text d.path.now)) (sym e) (subst (HasText (placed d old)) text (there_placed d old))
-
--- nothing is both true and false
-pub on_or_off : (b : Bool) → b ≡ false → b ≡ true → ⊥
-on_or_off true h k = cc
-on_or_off false h k = cc
