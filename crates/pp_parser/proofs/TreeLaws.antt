@@ -50,21 +50,7 @@ by_bracket p s h = by_tests (bytes_eq s (codes "[")) p.tight (bytes_eq s (codes 
 number_fits : (p : Place) (k : Kind) (s rest : List ℕ) → NumberStands k s rest → kind_at p k s ≡ kind.Int → int_value s < 2 ^ 63
 number_fits p kind.Int s rest n h = n.0
 number_fits p kind.Sign s rest n h = absurd (by_bracket p s h)
-number_fits p kind.Word s rest n h = cc
-number_fits p kind.Ref s rest n h = cc
-number_fits p kind.Var s rest n h = cc
-number_fits p kind.Float s rest n h = cc
-number_fits p kind.Sq s rest n h = cc
-number_fits p kind.DqOpen s rest n h = cc
-number_fits p kind.DqText s rest n h = cc
-number_fits p kind.DqVar s rest n h = cc
-number_fits p kind.Hole s rest n h = cc
-number_fits p kind.HoleEnd s rest n h = cc
-number_fits p kind.DqClose s rest n h = cc
-number_fits p kind.Tight s rest n h = cc
-number_fits p kind.Loose s rest n h = cc
-number_fits p kind.Keyword s rest n h = cc
-number_fits p kind.LeftOut s rest n h = cc
+number_fits p k s rest n h = cc
 
 -- so does each number that is read
 pub numbers_fit : {p : Place} {text : List ℕ} {tokens : List Lexeme} {e : Ending} → Reads p text tokens e → NumbersFit tokens

@@ -11,6 +11,7 @@ ghost use Rattle.pp_parser.specs.Refusing.{AreLexed, IsParseRefusal, RefusesSynt
 use crate::checked::check;
 use crate::items::items;
 use pp_readers::Misread;
+use pp_statement::Parser;
 use pp_syntax::{Manifest, Token};
 use rh_base::Fault;
 use std::alloc::Global;
@@ -50,7 +51,12 @@ pub fn parse(alloc: Global, tokens: &[Token<'_>]) -> Result<Manifest, Fault>
     ensures refused { IfErr result (λ e. IfRefused e (IsParseRefusal (told tokens.now))) }
 {
     check(alloc, tokens)?;
-    match items(alloc, tokens.len() + 1, tokens) {
+    let parser = Parser {
+        alloc,
+        limit: tokens.len() + 1,
+        tokens,
+    };
+    match items(&parser) {
         Ok((found, _)) => Ok(Manifest { items: found }),
         Err(Misread::Form(index)) => Err(syntax(alloc, tokens, index)),
         Err(Misread::Memory(m)) => Err(Fault::Memory(m)),

@@ -9,7 +9,7 @@ ghost use Rattle.pp_parser.specs.ItemReading.{word_by, begins_type, unopened, ha
 
 use pp_expression::{front_of, number, sq, text_of};
 use pp_readers::{Misread, Read};
-use pp_statement::begins;
+use pp_statement::{Parser, begins};
 use pp_syntax::{Kind, Token};
 use rh_base::Text;
 use std::alloc::Global;
@@ -106,12 +106,12 @@ fn quoted_by(alloc: Global, index: usize, kind: Kind, text: &str) -> Result<Text
 }
 
 /// The value of the text in single quotes at this index.
-pub fn quoted(alloc: Global, tokens: &[Token<'_>], from: usize) -> Read<Text>
-    ensures { Reads (taken quoted_by) tokens.now from result }
+pub fn quoted(parser: &Parser<'_>, from: usize) -> Read<Text>
+    ensures { Reads (taken quoted_by) parser.now.tokens.now from result }
 {
-    match front_of(tokens, from) {
+    match front_of(parser.tokens, from) {
         Some((token, rest)) => {
-            let value = quoted_by(alloc, from, token.kind, token.text)?;
+            let value = quoted_by(parser.alloc, from, token.kind, token.text)?;
             Ok((value, rest))
         }
         None => Err(Misread::Form(from)),
@@ -136,12 +136,12 @@ fn word_at<'a, 't>(tokens: &'a [Token<'t>], from: usize) -> Option<(&'t str, usi
 }
 
 /// The WORD at this index.
-pub fn word(alloc: Global, tokens: &[Token<'_>], from: usize) -> Read<Text>
-    ensures { Reads (taken word_by) tokens.now from result }
+pub fn word(parser: &Parser<'_>, from: usize) -> Read<Text>
+    ensures { Reads (taken word_by) parser.now.tokens.now from result }
 {
-    match word_at(tokens, from) {
+    match word_at(parser.tokens, from) {
         Some((name, rest)) => {
-            let name = text_of(alloc, name)?;
+            let name = text_of(parser.alloc, name)?;
             Ok((name, rest))
         }
         None => Err(Misread::Form(from)),

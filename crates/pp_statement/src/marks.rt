@@ -10,6 +10,7 @@ ghost use Rattle.pp_syntax.specs.Statements.{function_of};
 ghost use Rattle.pp_readers.specs.Names.{taken, plain_name, name_by, begins_name, plain_variable, variable_by, ref_by, function_by, unless_function, type_by, arrow_by, begins_arrow, begins_bracket};
 ghost use Rattle.pp_readers.specs.Statements.{unclosed};
 
+use crate::parser::Parser;
 use pp_expression::{front_of, mark, name_of, text_of};
 use pp_readers::{Misread, Read};
 use pp_syntax::{Arrow, Func, Kind, Token};
@@ -57,12 +58,12 @@ pub fn begins_name(tokens: &[Token<'_>], from: usize) -> bool
 }
 
 /// An attribute's name, and the index behind it.
-pub fn name(alloc: Global, tokens: &[Token<'_>], from: usize) -> Read<Text>
-    ensures { Reads (taken name_by) tokens.now from result }
+pub fn name(parser: &Parser<'_>, from: usize) -> Read<Text>
+    ensures { Reads (taken name_by) parser.now.tokens.now from result }
 {
-    match name_at(tokens, from) {
+    match name_at(parser.tokens, from) {
         Some((name, rest)) => {
-            let name = text_of(alloc, name)?;
+            let name = text_of(parser.alloc, name)?;
             Ok((name, rest))
         }
         None => Err(Misread::Form(from)),
@@ -87,12 +88,12 @@ fn ref_at<'a, 't>(tokens: &'a [Token<'t>], from: usize) -> Option<(&'t str, usiz
 }
 
 /// The name of a kind of resources as references have it.
-pub fn ref_name(alloc: Global, tokens: &[Token<'_>], from: usize) -> Read<Text>
-    ensures { Reads (taken ref_by) tokens.now from result }
+pub fn ref_name(parser: &Parser<'_>, from: usize) -> Read<Text>
+    ensures { Reads (taken ref_by) parser.now.tokens.now from result }
 {
-    match ref_at(tokens, from) {
+    match ref_at(parser.tokens, from) {
         Some((name, rest)) => {
-            let name = text_of(alloc, name)?;
+            let name = text_of(parser.alloc, name)?;
             Ok((name, rest))
         }
         None => Err(Misread::Form(from)),
@@ -119,12 +120,12 @@ fn plain_variable(alloc: Global, index: usize, text: &str) -> Result<Text, Misre
 }
 
 /// A variable's name, without `$`.
-pub fn variable(alloc: Global, tokens: &[Token<'_>], from: usize) -> Read<Text>
-    ensures { Reads (taken variable_by) tokens.now from result }
+pub fn variable(parser: &Parser<'_>, from: usize) -> Read<Text>
+    ensures { Reads (taken variable_by) parser.now.tokens.now from result }
 {
-    match front_of(tokens, from) {
+    match front_of(parser.tokens, from) {
         Some((token, rest)) => {
-            let name = variable_by(alloc, from, token.kind, token.text)?;
+            let name = variable_by(parser.alloc, from, token.kind, token.text)?;
             Ok((name, rest))
         }
         None => Err(Misread::Form(from)),
@@ -176,12 +177,12 @@ fn type_at<'a, 't>(tokens: &'a [Token<'t>], from: usize) -> Option<(&'t str, usi
 }
 
 /// A resource's type.
-pub fn type_name(alloc: Global, tokens: &[Token<'_>], from: usize) -> Read<Text>
-    ensures { Reads (taken type_by) tokens.now from result }
+pub fn type_name(parser: &Parser<'_>, from: usize) -> Read<Text>
+    ensures { Reads (taken type_by) parser.now.tokens.now from result }
 {
-    match type_at(tokens, from) {
+    match type_at(parser.tokens, from) {
         Some((name, rest)) => {
-            let name = text_of(alloc, name)?;
+            let name = text_of(parser.alloc, name)?;
             Ok((name, rest))
         }
         None => Err(Misread::Form(from)),
