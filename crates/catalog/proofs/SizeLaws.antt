@@ -9,6 +9,7 @@ use Rattle.catalog.proofs.RefLaws.{placed_last, count_is}
 use Rattle.catalog.specs.Adding.{changed_at, made_real, given, place_in_text}
 use Rattle.pp_value.specs.declared.value.Ref.{Ref}
 use Rattle.catalog.specs.Places.{placed, IsListed}
+use Rattle.catalog_semantics.proofs.Once.{refs_more}
 
 -- the size of two lists of attributes is the sum of both
 pub sizes_join : (a b : List Pair) → size_of_attributes (a ++ b) ≡ size_of_attributes a + size_of_attributes b
@@ -70,11 +71,6 @@ size_stays place [] = refl
 size_stays zero (r ∷ resources) = refl
 size_stays (suc place) (r ∷ resources) = ap (λ n. size_of_attributes r.attrs + n) (size_stays place resources)
 
--- one more resource is one more reference
-references_last : (resources : List Resource) (r : Resource) → references_of (resources ++ r ∷ []) ≡ references_of resources ++ r.id ∷ []
-references_last [] r = refl
-references_last (q ∷ resources) r = ap (λ more. q.id ∷ more) (references_last resources r)
-
 -- making a resource real leaves what stands beside the list right
 pub still_listed : (places : List (Ref × ℕ)) (size place : ℕ) (resources : List Resource) → IsListed places size resources → IsListed places size (changed_at place made_real resources)
 still_listed places size place resources h =
@@ -111,7 +107,7 @@ listed_more places size more resources r h room sum small =
     record {
       refs_are = ap (λ ps. ps ++ (r.id, length resources) ∷ []) h.refs_are
           ∙ (ap (λ n. placed 0 (references_of resources) ++ (r.id, n) ∷ []) place
-          ∙ (sym (placed_last 0 r.id (references_of resources)) ∙ ap (placed 0) (sym (references_last resources r))));
+          ∙ (sym (placed_last 0 r.id (references_of resources)) ∙ ap (placed 0) (sym (refs_more resources r))));
       size_is = omega arith;
       few = omega arith;
       small = small;

@@ -28,6 +28,7 @@ use Rattle.catalog_semantics.specs.Frames.{Each, IsContainerAt}
 use Rattle.catalog_semantics.proofs.Keeping.{step_each, then_each, bound_each}
 use Rattle.catalog_semantics.proofs.Whole.{IsWholeFrame, whole_keeps, few_is}
 use Rattle.catalog_laws.specs.Containers.{AreHeld, IsClassAt, HoldClasses}
+use Rattle.rh_base.proofs.Lists.{all_last}
 
 -- ---- what a resource keeps
 
@@ -93,11 +94,6 @@ each_under : {A : Type 0} (P Q : A → Type 0) (xs : List A) → ((x : A) → P 
 each_under P Q [] f h = tt
 each_under P Q (x ∷ xs) f h = (f x h.0, each_under P Q xs f h.1)
 
--- what holds of some and of one more holds of all
-each_one_more : {A : Type 0} (P : A → Type 0) (xs : List A) (y : A) → AllByRecursion P xs → P y → AllByRecursion P (xs ++ y ∷ [])
-each_one_more P [] y h k = (k, tt)
-each_one_more P (x ∷ xs) y h k = (h.0, each_one_more P xs y h.1 k)
-
 -- one more resource is one more skeleton
 map_more : (xs : List Resource) (y : Resource) → skeletons (xs ++ y ∷ []) ≡ skeletons xs ++ skeleton y ∷ []
 map_more [] y = refl
@@ -113,7 +109,7 @@ held_more : (running : Option ℕ) (ks : List Skeleton) (holdings : List Holding
     → Held running (ks ++ k ∷ []) holdings
 held_more running ks holdings k h holder = record {
   runs = some_stays ks (k ∷ []) running h.runs;
-  holders = each_one_more (HasHolder (ks ++ k ∷ [])) ks k
+  holders = all_last (HasHolder (ks ++ k ∷ [])) ks k
       (each_under (HasHolder ks) (HasHolder (ks ++ k ∷ [])) ks (λ q c. some_stays ks (k ∷ []) q.holder c) h.holders) (last holder);
   classes = each_under (HasClass ks) (HasClass (ks ++ k ∷ [])) holdings (λ q c. (container_stays ks (k ∷ []) q.outer c.0, class_stays ks (k ∷ []) q.class c.1)) h.classes;
 }
@@ -265,7 +261,7 @@ holds : (name : List ℕ) (outer class : ℕ) (s : State) → s.running ≡ Some
 holds name outer class s is at h = record {
   runs = h.runs;
   holders = h.holders;
-  classes = each_one_more (HasClass (skeletons s.resources)) s.holdings (record { outer = outer; class = class }) h.classes
+  classes = all_last (HasClass (skeletons s.resources)) s.holdings (record { outer = outer; class = class }) h.classes
       (subst (λ o. IfSome o (ContainerAt (skeletons s.resources))) is h.runs, class_found name s.resources class at);
 }
 

@@ -50,7 +50,7 @@ use Rattle.catalog_semantics.specs.Effects.{chained, called, Inner, Arms, InnerA
 use Rattle.catalog_semantics.specs.Frames.{Each, IsSound, AreSoundAttributes, IsContainerAt}
 use Rattle.catalog_semantics.specs.Catalogs.{is_plain_sort}
 use Rattle.catalog_semantics.specs.declared.catalog.Sort.TheVariants as sort
-use Rattle.catalog_semantics.proofs.DistinctNames.{all_sound}
+use Rattle.catalog_semantics.proofs.DistinctNames.{all_sound, both_each}
 use Rattle.catalog_semantics.proofs.Rolled.{in_arm, in_case_arm, layer_of, rolled, rolled_arm, rolled_case_arm}
 
 -- each effect leads to a state that stands in this relation to the one before
@@ -93,11 +93,6 @@ bound_each P at name x s h = by_test (is_none (value_at name (bindings_now s.sco
     by_test : (b : Bool) → Each P (cond b (Ok (with_binding name x s.scopes)) (Err (bound_again at name)) >>= λ scopes. Ok (with_scopes scopes s))
     by_test true = h
     by_test false = tt
-
--- what is given is both, where it is each
-pub both_each : {A : Type 0} (P Q : A → Type 0) (x : Result A Refusal) → Each P x → Each Q x → Each (λ t. P t × Q t) x
-both_each P Q (Ok t) h k = (h, k)
-both_each P Q (Err e) h k = tt
 
 -- ---- what is added stands last
 

@@ -47,7 +47,7 @@ abbrev pub StandStill : State → State → Type 0
 StandStill s t = StandOnce (references_of s.resources) → StandOnce (references_of t.resources)
 
 -- one more resource is one more reference
-refs_more : (resources : List Resource) (r : Resource) → references_of (resources ++ r ∷ []) ≡ references_of resources ++ r.id ∷ []
+pub refs_more : (resources : List Resource) (r : Resource) → references_of (resources ++ r ∷ []) ≡ references_of resources ++ r.id ∷ []
 refs_more [] r = refl
 refs_more (q ∷ resources) r = ap (λ (w : List Ref). q.id ∷ w) (refs_more resources r)
 

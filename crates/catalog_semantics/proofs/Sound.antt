@@ -25,6 +25,7 @@ use Rattle.catalog_semantics.specs.Frames.{Each, IsSound, AreSound}
 use Rattle.catalog_semantics.proofs.Keeping.{Keeps, step_each, then_each, bound_each}
 use Rattle.catalog_semantics.proofs.Clean.{both_clean}
 use Rattle.catalog_semantics.proofs.Whole.{IsWholeFrame, whole_keeps, few_is}
+use Rattle.rh_base.proofs.Lists.{all_last}
 
 -- the defaults are clean, and no name stands twice among those of a type
 pub record SoundDefaults (defaults : List Default) : Type 0 where
@@ -39,11 +40,6 @@ pub record SoundState (s : State) : Type 0 where
 -- where the one is sound, so is the other
 abbrev StaySound : State → State → Type 0
 StaySound s t = SoundState s → SoundState t
-
--- what holds of some and of one more holds of all
-each_more : {A : Type 0} (P : A → Type 0) (xs : List A) (y : A) → AllByRecursion P xs → P y → AllByRecursion P (xs ++ y ∷ [])
-each_more P [] y h k = (k, tt)
-each_more P (x ∷ xs) y h k = (h.0, each_more P xs y h.1 k)
 
 -- one of two lists of clean attributes is clean
 if_clean : (b : Bool) (xs ys : List Pair) → AreClean xs → AreClean ys → AreClean (cond b xs ys)
@@ -113,7 +109,7 @@ adds_sound : (r : Resource) → IsSound r → Keeps StaySound (added r)
 adds_sound r sound s = step_each (StaySound s) (is_new r s) _ (λ new. step_each (StaySound s) (has_room r s) _ (λ room.
     step_each (StaySound s) (within_size r.at (s.resources ++ as_added s r ∷ [])) _ (λ fits h. record {
       resources =
-          each_more IsSound s.resources (as_added s r) h.resources
+          all_last IsSound s.resources (as_added s r) h.resources
           (if_sound s.main_has_ended (filled s.defaults r) r (filled_sound s.defaults r h.defaults sound) sound);
       defaults = h.defaults;
     })))
@@ -125,7 +121,7 @@ fills_sound defaults done [] d h k = h
 fills_sound defaults done (r ∷ resources) d h k =
     step_each AreSound (within_size r.at (done ++ filled defaults r ∷ resources)) _ (λ fits.
     fills_sound defaults (done ++ filled defaults r ∷ []) resources d
-    (each_more IsSound done (filled defaults r) h (filled_sound defaults r d k.0)) k.1)
+    (all_last IsSound done (filled defaults r) h (filled_sound defaults r d k.0)) k.1)
 
 -- what is so under a condition is given under it
 under : {X : Type 0} (Q : X → Type 0) (A : Type 0) (x : Result X Refusal) → (A → Each Q x) → Each (λ t. A → Q t) x
@@ -159,7 +155,7 @@ whole_sound = record {
         λ kind attributes s fit h. record {
           resources = h.resources;
           defaults = record {
-            clean = each_more (λ (d : Default). AreClean d.attributes) s.defaults _ h.defaults.clean fit.0;
+            clean = all_last (λ (d : Default). AreClean d.attributes) s.defaults _ h.defaults.clean fit.0;
             named = named_more kind attributes s.defaults h.defaults.named fit.1;
           };
         };

@@ -156,8 +156,6 @@ module _ (commute : (folders : BTreeSet Path) (e f : model.Program) → IsProper
       (commute folders own shared a.left.0 a.proper a.left.1)
       (commute folders other shared a.right.0 a.proper a.right.1))
 
--- ---- a list that is walked
-
 -- ---- a list and its first steps
 
 -- a list runs as two programs of which one runs as its front, and the other as its back

@@ -22,13 +22,9 @@ use Rattle.catalog_semantics.proofs.Whole.{due_contains}
 use Rattle.pp_compile.specs.declared.looking.Looked.{Looked}
 use Rattle.pp_compile.specs.Rounds.{realized_below}
 use Rattle.pp_compile.specs.Looking.{called_by, IsLookedAt, AreLooked}
+use Rattle.pp_declaration_state.proofs.MarkLaws.{or_assoc}
 
 -- ---- some, and the others
-
--- a disjunction of three may be grouped either way
-or_assoc : (a b c : Bool) → (a || (b || c)) ≡ ((a || b) || c)
-or_assoc true b c = refl
-or_assoc false b c = refl
 
 -- one of a list passes where one of its front or of its back does
 in_two : {X : Type 0} (f : X → Bool) (n : ℕ) (xs : List X) → list_any f xs ≡ (list_any f (take n xs) || list_any f (drop n xs))

@@ -22,7 +22,7 @@ use Rattle.pp_readers.specs.Marks.{mark}
 use Rattle.rh_base.specs.Reading.{◌>>=◌}
 use Rattle.pp_readers.specs.Parsed.{Begins}
 use Rattle.pp_readers.specs.Expressions.{string_with}
-use Rattle.pp_readers.proofs.Tokens.{bind_some, maps, marked}
+use Rattle.pp_readers.proofs.Tokens.{maps, marked}
 use Rattle.pp_readers.proofs.Finding.{Finds, maybe_items_found}
 use Rattle.pp_readers.specs.Combining.{Reader, both, behind, begins, listed}
 use Rattle.pp_readers.specs.Names.{taken, variable_by, ref_by}
@@ -31,6 +31,7 @@ use Rattle.pp_readers.proofs.Combining.{Spells, both_found, behind_found, placed
 use Rattle.pp_readers.proofs.Names.{variable_found, ref_found}
 use Rattle.pp_parser.specs.ItemReading.{begins_type, param_of, maybe_type, default_with, param_with, params_in, params_with, word_by, parent_with, class_of, class_with, define_of, define_with, text_of, text_name, default_name, word_name, node_name_by, node_name_with, unopened, node_names_with, node_of, node_with, defaults_of, defaults_with, plain_with, class_or_plain, keyed_with, defaults_or_plain, item_by, item_with, has_token, items_with}
 use Rattle.pp_parser.proofs.TypesFound.{Perhaps, optional_found, shaped_found}
+use Rattle.rh_base.proofs.Options.{bind_some}
 
 -- a token that is a word is spelled as it
 word_is : (k : Kind) (s x : List ℕ) (at : ℕ) → word_by k s ≡ Some x → phrases.Some kind.Word x (record { kind = k; text = s; at = at } ∷ [])

@@ -25,13 +25,13 @@ use Rattle.pp_readers.specs.Marks.{Found}
 use Rattle.rh_base.specs.Reading.{◌>>=◌}
 use Rattle.pp_readers.specs.Parsed.{NumbersFit, Fails}
 use Rattle.pp_readers.specs.Expressions.{with_first}
-use Rattle.pp_readers.proofs.Tokens.{bind_some}
 use Rattle.pp_readers.proofs.Finding.{with_first_some}
 use Rattle.pp_readers.specs.Combining.{Reader, many}
 use Rattle.pp_parser.specs.ItemReading.{has_token, items_at}
 use Rattle.pp_parser.specs.Refusing.{AreLexed, RefusesSyntax, IsParseRefusal}
 use Rattle.pp_parser.proofs.ItemsWhole.{items_at_found, items_at_read}
 use Rattle.pp_parser.proofs.WithinStatements.{bounded, unbounded}
+use Rattle.rh_base.proofs.Options.{bind_some}
 
 -- ---- the numbers of tokens that a text spells fit
 

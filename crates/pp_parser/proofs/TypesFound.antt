@@ -16,7 +16,7 @@ use Rattle.pp_syntax.specs.Statements as grammar
 use Rattle.rh_base.specs.Reading.{◌>>=◌}
 use Rattle.pp_readers.specs.Values.{number}
 use Rattle.pp_readers.specs.Parsed.{Begins}
-use Rattle.pp_readers.proofs.Tokens.{bind_some, maps}
+use Rattle.pp_readers.proofs.Tokens.{maps}
 use Rattle.pp_readers.proofs.Finding.{Finds, nothing, items_found}
 use Rattle.pp_readers.proofs.Operands.{sq_found}
 use Rattle.pp_readers.specs.Combining.{Reader, both, behind, before, begins}
@@ -25,6 +25,7 @@ use Rattle.pp_readers.proofs.Combining.{Spells, both_found, behind_found, before
 use Rattle.pp_parser.specs.TypeReading.{optional, shaped, type_word, type_word_by, number_by, quoted_by, upper_with, bounds_with, maybe_bounds, text_type, number_type, member_with, maybe_member, members_in, members_with, texts_in, texts_with, type_by, type_with, type_at}
 use Rattle.pp_parser.specs.declared.words.TypeWord.{TypeWord}
 use Rattle.pp_parser.specs.declared.words.TypeWord.TheVariants as word
+use Rattle.rh_base.proofs.Options.{bind_some}
 
 -- a token by itself
 abbrev token : Kind → List ℕ → ℕ → List Lexeme
