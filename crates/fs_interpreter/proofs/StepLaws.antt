@@ -6,7 +6,7 @@ use Rattle.fs_semantics.specs.FileTree.{Path}
 use Rattle.fs_semantics.specs.Programs.{Program, Programs, Id, Err, Mkdir, Creat, Link, Rm, Cp, Steps, If, none, next}
 use Rattle.fs_interpreter.specs.Places.{Listed, place_in, has}
 use Rattle.fs_interpreter.specs.States.{Cell, State}
-use Rattle.fs_interpreter.specs.Steps.{file_at, file_cell, any_present, put, if_any, removed_at, copied_at, told, stepped, all_stepped, written, all_written}
+use Rattle.fs_interpreter.specs.Steps.{file_at, file_cell, any_present, put, if_any, removed_at, copied_at, holds_in, stepped, all_stepped, written, all_written}
 use Rattle.fs_interpreter.proofs.SearchLaws.{place_below}
 use Rattle.std.proofs.lemmas.Bool.{or_right, or_left as or_true, or_left}
 use Rattle.fs_semantics.proofs.Counts.{all_append}
@@ -87,7 +87,7 @@ mutual
   stays_elsewhere table (Steps es) s j h = all_stay_elsewhere table es s j h
   stays_elsewhere table (If a e f) s j h =
       let either = sym (has_append j (written table.paths e) (written table.paths f)) ∙ h in
-      elim (told table a s.cell) as (λ b. (cond b (stepped table e s) (stepped table f s)).cell j ≡ s.cell j) [
+      elim (holds_in table a s.cell) as (λ b. (cond b (stepped table e s) (stepped table f s)).cell j ≡ s.cell j) [
         | true ↦ stays_elsewhere table e s j (left_out _ _ either)
         | false ↦ stays_elsewhere table f s j (right_out _ _ either)
       ]
@@ -125,7 +125,7 @@ mutual
   error_stays table (Rm p) s h = removed_errs (place_in table.paths p) _ s h
   error_stays table (Cp p q) s h = copied_errs (place_in table.paths p) (place_in table.paths q) _ s h
   error_stays table (Steps es) s h = error_stays_in_all table es s h
-  error_stays table (If a e f) s h = elim (told table a s.cell) as (λ b. (cond b (stepped table e s) (stepped table f s)).error ≡ true) [
+  error_stays table (If a e f) s h = elim (holds_in table a s.cell) as (λ b. (cond b (stepped table e s) (stepped table f s)).error ≡ true) [
     | true ↦ error_stays table e s h
     | false ↦ error_stays table f s h
   ]

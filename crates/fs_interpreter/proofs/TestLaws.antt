@@ -11,7 +11,7 @@ use Rattle.fs_semantics.proofs.Trees.{path_eq_same, path_eq_refl}
 use Rattle.fs_semantics.proofs.ConstructLaws.{child_found}
 use Rattle.fs_interpreter.specs.Places.{Listed, IsTable, HasPath, CoversTest, place_in, children_from, children_in}
 use Rattle.fs_interpreter.specs.States.{Cell, State}
-use Rattle.fs_interpreter.specs.Steps.{Cellwise, file_at, link_at, dir_at, none_at, any_present, empty_at, told}
+use Rattle.fs_interpreter.specs.Steps.{Cellwise, file_at, link_at, dir_at, none_at, any_present, empty_at, holds_in}
 use Rattle.fs_interpreter.specs.Standing.{Tells, Stands}
 use Rattle.fs_interpreter.proofs.SearchLaws.{place_there, place_found, place_nowhere}
 use Rattle.std.proofs.lemmas.Bool.{or_right, or_left, or_cases}
@@ -174,7 +174,7 @@ pub empty_is : (table : Listed) (s : State) (t : Tree) (p : Path) → Stands tab
 empty_is table s t p st h = let dir = dir_is table s t p h in let any = any_is table s t p st in (λ i. dir i && not (any i))
 
 -- a test holds of what the cells tell where it holds in the tree
-pub told_is : (table : Listed) (s : State) (t : Tree) (a : Test) → IsTable table → Stands table s t → CoversTest table a → told table a s.cell ≡ holds a t
+pub told_is : (table : Listed) (s : State) (t : Tree) (a : Test) → IsTable table → Stands table s t → CoversTest table a → holds_in table a s.cell ≡ holds a t
 told_is table s t True is st c = refl
 told_is table s t False is st c = refl
 told_is table s t (Not a) is st c = ap not (told_is table s t a is st c)

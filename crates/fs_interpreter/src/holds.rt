@@ -3,7 +3,7 @@
 ghost use Rattle.std.specs.Prelude.{◌≡◌, not, ◌&&◌, ◌||◌, length, IfOk};
 ghost use Rattle.fs_interpreter.specs.Meanings.{Grows, IsBit};
 ghost use Rattle.fs_interpreter.specs.States.{AreCells, cell_at};
-ghost use Rattle.fs_interpreter.specs.Steps.{told};
+ghost use Rattle.fs_interpreter.specs.Steps.{holds_in};
 ghost use Rattle.fs_lang.specs.Meaning.{test_of};
 
 use crate::bits::Bits;
@@ -26,7 +26,7 @@ pub(crate) fn holds<B: Bits>(
     requires places { length cells.now.present ≡ length table.now.paths }
     ensures gives { IfOk result
         (IsBit (B.meanings bits.new)
-        (λ v. told table.now (test_of test.now) (cell_at (B.meanings bits.old) v cells.now))) }
+        (λ v. holds_in table.now (test_of test.now) (cell_at (B.meanings bits.old) v cells.now))) }
     ensures grows { Grows (B.meanings bits.old) (B.meanings bits.new) }
     ensures cells { AreCells (B.meanings bits.new) cells.now }
 {
@@ -55,7 +55,7 @@ fn fails<B: Bits>(
     requires places { length cells.now.present ≡ length table.now.paths }
     ensures gives { IfOk result
         (IsBit (B.meanings bits.new)
-        (λ v. not (told table.now (test_of a.now) (cell_at (B.meanings bits.old) v cells.now)))) }
+        (λ v. not (holds_in table.now (test_of a.now) (cell_at (B.meanings bits.old) v cells.now)))) }
     ensures grows { Grows (B.meanings bits.old) (B.meanings bits.new) }
     ensures cells { AreCells (B.meanings bits.new) cells.now }
 {
@@ -75,7 +75,7 @@ fn both_hold<B: Bits>(
     requires places { length cells.now.present ≡ length table.now.paths }
     ensures gives { IfOk result
         (IsBit (B.meanings bits.new)
-        (λ v. told table.now (test_of a.now) (cell_at (B.meanings bits.old) v cells.now) && told table.now
+        (λ v. holds_in table.now (test_of a.now) (cell_at (B.meanings bits.old) v cells.now) && holds_in table.now
         (test_of b.now) (cell_at (B.meanings bits.old) v cells.now))) }
     ensures grows { Grows (B.meanings bits.old) (B.meanings bits.new) }
     ensures cells { AreCells (B.meanings bits.new) cells.now }
@@ -97,7 +97,7 @@ fn one_holds<B: Bits>(
     requires places { length cells.now.present ≡ length table.now.paths }
     ensures gives { IfOk result
         (IsBit (B.meanings bits.new)
-        (λ v. told table.now (test_of a.now) (cell_at (B.meanings bits.old) v cells.now) || told table.now
+        (λ v. holds_in table.now (test_of a.now) (cell_at (B.meanings bits.old) v cells.now) || holds_in table.now
         (test_of b.now) (cell_at (B.meanings bits.old) v cells.now))) }
     ensures grows { Grows (B.meanings bits.old) (B.meanings bits.new) }
     ensures cells { AreCells (B.meanings bits.new) cells.now }

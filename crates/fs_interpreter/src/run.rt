@@ -9,7 +9,7 @@ ghost use Rattle.fs_interpreter.specs.Standing.{StandsFor};
 ghost use Rattle.fs_interpreter.specs.States.{AreCells, state_of};
 ghost use Rattle.fs_interpreter.specs.Changed.{Becomes};
 ghost use Rattle.fs_interpreter.specs.Asides.{IsAside, IsRead};
-ghost use Rattle.fs_interpreter.specs.Steps.{stepped, all_stepped, told, written};
+ghost use Rattle.fs_interpreter.specs.Steps.{stepped, all_stepped, holds_in, written};
 ghost use Rattle.fs_lang.specs.Meaning.{program_of, programs_in, test_of};
 
 use crate::bits::Bits;
@@ -88,7 +88,7 @@ fn branch<B: Bits>(
     requires places { length cells.old.present ≡ length table.now.paths }
     ensures changes { OnOk result
         (Becomes (B.meanings bits.old) (B.meanings bits.new) cells.old cells.new
-        (λ v s. if told table.now (test_of a.now) s.cell then stepped table.now
+        (λ v s. if holds_in table.now (test_of a.now) s.cell then stepped table.now
         (program_of e.now) s else stepped table.now (program_of f.now) s)) }
     ensures grows { Grows (B.meanings bits.old) (B.meanings bits.new) }
 {

@@ -14,7 +14,7 @@ use Rattle.finite_domain.specs.Layouts.{all_texts, first_uses, other_segment, st
 use Rattle.finite_domain.proofs.Matters.{paths_told, watched_told, named_told, front_of, among_fronts}
 use Rattle.finite_domain.proofs.Texts.{text_same, first_uses_are}
 use Rattle.path_domain.specs.declared.found.Found.{Found}
-use Rattle.path_domain.specs.Gathered.{Paths, Gathered, told, nothing, gather}
+use Rattle.path_domain.specs.Gathered.{Paths, Gathered, gathered_of, nothing, gather}
 use Rattle.path_domain.specs.Laid.{places_from, Starts, HaveParents}
 use Rattle.path_domain.proofs.UseLaws.{paths_are, watched_are}
 use Rattle.path_domain.proofs.PlaceLaws.{places_rise, at_places}
@@ -94,7 +94,7 @@ named_exactly es ps same q = (
 )
 
 -- the paths that were gathered are just those that the programs mention
-pub paths_in : (es : List Program) (f : Found) → told f ≡ gather (all_matters es) nothing → (q : Path) → is_among q f.paths.keys ≡ is_among q (paths_among (all_matters es))
+pub paths_in : (es : List Program) (f : Found) → gathered_of f ≡ gather (all_matters es) nothing → (q : Path) → is_among q f.paths.keys ≡ is_among q (paths_among (all_matters es))
 paths_in es f found q = ap (λ (g : Gathered). g.paths q) found ∙ paths_are (all_matters es) nothing q ∙ or-false (is_among q (paths_among (all_matters es)))
 
 -- ---- the parts of a layout
@@ -108,7 +108,7 @@ pub record Parts (es : List Program) (ps ws ks : List Path) (fresh : Paths) (n :
   pub all : (q : Path) → is_among q ks ≡ (fresh q || is_among q (all_fronts ps))
 
 -- what the code gathered is this
-pub parts_of : (es : List Program) (f : Found) (ks : List Path) (name : List ℕ) (fresh : Paths) → told f ≡ gather (all_matters es) nothing
+pub parts_of : (es : List Program) (f : Found) (ks : List Path) (name : List ℕ) (fresh : Paths) → gathered_of f ≡ gather (all_matters es) nothing
     → (named : (n : ℕ) × (name ≡ other_segment n) × IsFirstFailure (λ k. IsTrue (has_segment (other_segment k) f.paths.keys)) n)
     → ((q : Path) → fresh q ≡ list_any (λ p. path_eq q (p ++ name ∷ [])) f.watched.keys) → ((q : Path) → is_among q ks ≡ (fresh q || is_among q (all_fronts f.paths.keys)))
     → Parts es f.paths.keys f.watched.keys ks fresh named.0

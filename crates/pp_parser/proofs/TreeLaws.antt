@@ -17,7 +17,7 @@ use Rattle.pp_syntax.specs.declared.tree.Manifest.{Manifest}
 use Rattle.pp_syntax.specs.Opened.{Ending, in_hole}
 use Rattle.pp_syntax.specs.Tokens.{Lexeme, int_value}
 use Rattle.pp_syntax.specs.Spelling.{Reads, ends, gap, token, stuck, NumberStands, kind_at, bracket_kind}
-use Rattle.pp_syntax.specs.Lexing.{told, lexeme_of}
+use Rattle.pp_syntax.specs.Lexing.{lexemes_of, lexeme_of}
 use Rattle.pp_syntax.specs.LeftOut.{IsNowhere, IsLeftOut}
 use Rattle.pp_syntax.specs.Depth.{IsTooDeep}
 use Rattle.pp_syntax.specs.Statements.{IsManifest}
@@ -116,11 +116,11 @@ pub one_tree : (m n : Manifest) (ts : List Lexeme) → AreLexed ts → IsManifes
 one_tree m n ts l h k = same_tree ts [] (length ts + 1) m.items n refl (lexed_fit ts l) (tree_read ts (length ts + 1) m refl (lexed_fit ts l) h) k
 
 -- the definitions speak of as many tokens as the code has
-pub told_length : (tokens : List Token) → length (told tokens) ≡ length tokens
+pub told_length : (tokens : List Token) → length (lexemes_of tokens) ≡ length tokens
 told_length tokens = length-map tokens lexeme_of
 
 -- and of as many turns
-pub turns_are : (tokens : List Token) → length tokens + 1 ≡ length (told tokens) + 1
+pub turns_are : (tokens : List Token) → length tokens + 1 ≡ length (lexemes_of tokens) + 1
 turns_are tokens = ap (λ n. n + 1) (sym (told_length tokens))
 
 -- nothing was read

@@ -1,6 +1,6 @@
 //! The parser of what stands at the top of a manifest.
 ghost use Rattle.std.specs.Prelude.{◌≡◌, ◌+◌, drop, codes, length, Some};
-ghost use Rattle.pp_syntax.specs.Lexing.{told};
+ghost use Rattle.pp_syntax.specs.Lexing.{lexemes_of};
 ghost use Rattle.pp_readers.specs.Parsed.{Gives, Reads};
 ghost use Rattle.pp_readers.specs.Expressions.{items, expr_at};
 ghost use Rattle.pp_readers.specs.Combining.{listed};
@@ -309,7 +309,7 @@ fn item(parser: &Parser<'_>, from: usize) -> Read<Item>
 
 /// All items, with brackets and blocks nested less deep than the limit.
 pub fn items(parser: &Parser<'_>) -> Read<Seq<Item>>
-    ensures { Gives (λ x. (x.0, drop x.1 (told parser.now.tokens.now))) result (items_at parser.now.limit (told parser.now.tokens.now)) }
+    ensures { Gives (λ x. (x.0, drop x.1 (lexemes_of parser.now.tokens.now))) result (items_at parser.now.limit (lexemes_of parser.now.tokens.now)) }
 {
     let mut found = Seq::new(parser.alloc);
     let mut rest = 0;

@@ -1,7 +1,7 @@
 //! The tokens that stand for types, numbers and names.
 ghost use Rattle.std.specs.Prelude.{◌≡◌, drop};
 ghost use Rattle.std.specs.Option.{option_map};
-ghost use Rattle.pp_syntax.specs.Lexing.{told};
+ghost use Rattle.pp_syntax.specs.Lexing.{lexemes_of};
 ghost use Rattle.pp_readers.specs.Parsed.{Gives, Reads, Sees};
 ghost use Rattle.pp_readers.specs.Names.{taken};
 ghost use Rattle.pp_parser.specs.TypeReading.{type_word, type_word_by, number_by, quoted_by};
@@ -128,7 +128,7 @@ fn word_by(kind: Kind, text: &str) -> Option<&str>
 }
 
 fn word_at<'a, 't>(tokens: &'a [Token<'t>], from: usize) -> Option<(&'t str, usize)>
-    ensures { option_map (λ x. (x.0.now, drop x.1 (told tokens.now))) result ≡ taken word_by (drop from (told tokens.now)) }
+    ensures { option_map (λ x. (x.0.now, drop x.1 (lexemes_of tokens.now))) result ≡ taken word_by (drop from (lexemes_of tokens.now)) }
 {
     let (token, rest) = front_of(tokens, from)?;
     let name = word_by(token.kind, token.text)?;
@@ -150,14 +150,14 @@ pub fn word(parser: &Parser<'_>, from: usize) -> Read<Text>
 
 /// No `{` stands at this index.
 pub fn unopened(tokens: &[Token<'_>], from: usize) -> bool
-    ensures { result ≡ unopened (drop from (told tokens.now)) }
+    ensures { result ≡ unopened (drop from (lexemes_of tokens.now)) }
 {
     !begins(Kind::Sign, "{", tokens, from)
 }
 
 /// A token stands at this index.
 pub fn has_token(tokens: &[Token<'_>], from: usize) -> bool
-    ensures { result ≡ has_token (drop from (told tokens.now)) }
+    ensures { result ≡ has_token (drop from (lexemes_of tokens.now)) }
 {
     match front_of(tokens, from) {
         Some(_) => true,
@@ -167,7 +167,7 @@ pub fn has_token(tokens: &[Token<'_>], from: usize) -> bool
 
 /// The type of a parameter begins at this index.
 pub fn begins_type(tokens: &[Token<'_>], from: usize) -> bool
-    ensures { result ≡ begins_type (drop from (told tokens.now)) }
+    ensures { result ≡ begins_type (drop from (lexemes_of tokens.now)) }
 {
     match front_of(tokens, from) {
         Some((token, _)) => matches!(token.kind, Kind::Ref),

@@ -1,7 +1,7 @@
 //! The tokens that stand for names, functions and arrows.
 ghost use Rattle.std.specs.Prelude.{◌≡◌, drop, [], ◌∷◌, codes};
 ghost use Rattle.std.specs.Option.{option_map};
-ghost use Rattle.pp_syntax.specs.Lexing.{told};
+ghost use Rattle.pp_syntax.specs.Lexing.{lexemes_of};
 ghost use Rattle.pp_syntax.specs.Tokens.{is_among};
 ghost use Rattle.pp_syntax.specs.Statements.{is_qualified};
 ghost use Rattle.pp_readers.specs.Parsed.{Gives, Reads, Sees};
@@ -40,7 +40,7 @@ fn name_by(kind: Kind, text: &str) -> Option<&str>
 }
 
 fn name_at<'a, 't>(tokens: &'a [Token<'t>], from: usize) -> Option<(&'t str, usize)>
-    ensures { option_map (λ x. (x.0.now, drop x.1 (told tokens.now))) result ≡ taken name_by (drop from (told tokens.now)) }
+    ensures { option_map (λ x. (x.0.now, drop x.1 (lexemes_of tokens.now))) result ≡ taken name_by (drop from (lexemes_of tokens.now)) }
 {
     let (token, rest) = front_of(tokens, from)?;
     let name = name_by(token.kind, token.text)?;
@@ -49,7 +49,7 @@ fn name_at<'a, 't>(tokens: &'a [Token<'t>], from: usize) -> Option<(&'t str, usi
 
 /// An attribute's name stands at this index.
 pub fn begins_name(tokens: &[Token<'_>], from: usize) -> bool
-    ensures { result ≡ begins_name (drop from (told tokens.now)) }
+    ensures { result ≡ begins_name (drop from (lexemes_of tokens.now)) }
 {
     match name_at(tokens, from) {
         Some(_) => true,
@@ -80,7 +80,7 @@ fn ref_by(kind: Kind, text: &str) -> Option<&str>
 }
 
 fn ref_at<'a, 't>(tokens: &'a [Token<'t>], from: usize) -> Option<(&'t str, usize)>
-    ensures { option_map (λ x. (x.0.now, drop x.1 (told tokens.now))) result ≡ taken ref_by (drop from (told tokens.now)) }
+    ensures { option_map (λ x. (x.0.now, drop x.1 (lexemes_of tokens.now))) result ≡ taken ref_by (drop from (lexemes_of tokens.now)) }
 {
     let (token, rest) = front_of(tokens, from)?;
     let name = ref_by(token.kind, token.text)?;
@@ -169,7 +169,7 @@ fn type_by(kind: Kind, text: &str) -> Option<&str>
 }
 
 fn type_at<'a, 't>(tokens: &'a [Token<'t>], from: usize) -> Option<(&'t str, usize)>
-    ensures { option_map (λ x. (x.0.now, drop x.1 (told tokens.now))) result ≡ taken type_by (drop from (told tokens.now)) }
+    ensures { option_map (λ x. (x.0.now, drop x.1 (lexemes_of tokens.now))) result ≡ taken type_by (drop from (lexemes_of tokens.now)) }
 {
     let (token, rest) = front_of(tokens, from)?;
     let name = type_by(token.kind, token.text)?;
@@ -209,7 +209,7 @@ pub fn arrow_at(tokens: &[Token<'_>], from: usize) -> Option<(Arrow, usize)>
 
 /// An arrow stands at this index.
 pub fn begins_arrow(tokens: &[Token<'_>], from: usize) -> bool
-    ensures { result ≡ begins_arrow (drop from (told tokens.now)) }
+    ensures { result ≡ begins_arrow (drop from (lexemes_of tokens.now)) }
 {
     match arrow_at(tokens, from) {
         Some(_) => true,
@@ -219,7 +219,7 @@ pub fn begins_arrow(tokens: &[Token<'_>], from: usize) -> bool
 
 /// A token of this kind and text stands at this index.
 pub fn begins(kind: Kind, text: &str, tokens: &[Token<'_>], from: usize) -> bool
-    ensures { result ≡ begins kind text.now (drop from (told tokens.now)) }
+    ensures { result ≡ begins kind text.now (drop from (lexemes_of tokens.now)) }
 {
     match mark(kind, text, tokens, from) {
         Some(_) => true,
@@ -229,7 +229,7 @@ pub fn begins(kind: Kind, text: &str, tokens: &[Token<'_>], from: usize) -> bool
 
 /// No `}` stands at this index.
 pub fn unclosed(tokens: &[Token<'_>], from: usize) -> bool
-    ensures { result ≡ unclosed (drop from (told tokens.now)) }
+    ensures { result ≡ unclosed (drop from (lexemes_of tokens.now)) }
 {
     !begins(Kind::Sign, "}", tokens, from)
 }
@@ -244,7 +244,7 @@ fn is_bracket(text: &str) -> bool
 
 /// The token at this index is spelled `(` or `{`.
 pub fn begins_bracket(tokens: &[Token<'_>], from: usize) -> bool
-    ensures { result ≡ begins_bracket (drop from (told tokens.now)) }
+    ensures { result ≡ begins_bracket (drop from (lexemes_of tokens.now)) }
 {
     match front_of(tokens, from) {
         Some((token, _)) => is_bracket(token.text),

@@ -1,5 +1,5 @@
 //! What the parser of manifests calls.
-ghost use Rattle.pp_syntax.specs.Lexing.{told};
+ghost use Rattle.pp_syntax.specs.Lexing.{lexemes_of};
 ghost use Rattle.pp_syntax.specs.Phrases.{MaybeListed};
 ghost use Rattle.pp_syntax.specs.Derivation.{IsExprAt};
 ghost use Rattle.pp_syntax.specs.Statements.{AttrOf, InBraces, BlockOf, IsStmtAt};
@@ -17,9 +17,9 @@ use rh_base::Seq;
 /// The statement that begins at this index, with brackets and blocks nested less deep than the limit,
 /// and the index behind it.
 pub fn parse_statement(parser: &Parser<'_>, from: usize) -> Read<Stmt>
-    ensures spelled { IsSpelled (IsStmtAt (IsExprAt parser.now.limit) parser.now.limit) (told parser.now.tokens.now) from result }
+    ensures spelled { IsSpelled (IsStmtAt (IsExprAt parser.now.limit) parser.now.limit) (lexemes_of parser.now.tokens.now) from result }
     ensures parsed { IsParsed (IsStmtAt (IsExprAt parser.now.limit) parser.now.limit) NothingFollows
-        (told parser.now.tokens.now) from result }
+        (lexemes_of parser.now.tokens.now) from result }
     // what the reader of this rule finds, which the parsers that call this build on
     ensures reads { Reads (stmt_at (expr_at parser.now.limit) parser.now.limit) parser.now.tokens.now from result }
 {
@@ -28,9 +28,9 @@ pub fn parse_statement(parser: &Parser<'_>, from: usize) -> Read<Stmt>
 
 /// The statements in braces from this index on.
 pub fn parse_block(parser: &Parser<'_>, from: usize) -> Read<Seq<Stmt>>
-    ensures spelled { IsSpelled (BlockOf (IsStmtAt (IsExprAt parser.now.limit) parser.now.limit)) (told parser.now.tokens.now) from result }
+    ensures spelled { IsSpelled (BlockOf (IsStmtAt (IsExprAt parser.now.limit) parser.now.limit)) (lexemes_of parser.now.tokens.now) from result }
     ensures parsed { IsParsed (BlockOf (IsStmtAt (IsExprAt parser.now.limit) parser.now.limit)) Anything
-        (told parser.now.tokens.now) from result }
+        (lexemes_of parser.now.tokens.now) from result }
     // what the reader of this rule finds, which the parsers that call this build on
     ensures reads { Reads (block_with (stmt_at (expr_at parser.now.limit) parser.now.limit)) parser.now.tokens.now from result }
 {
@@ -40,9 +40,9 @@ pub fn parse_block(parser: &Parser<'_>, from: usize) -> Read<Seq<Stmt>>
 /// The attributes in braces from this index on.
 pub fn parse_attributes(parser: &Parser<'_>, from: usize) -> Read<Seq<Attr>>
     ensures spelled { IsSpelled (λ attrs. InBraces (MaybeListed (AttrOf (IsExprAt parser.now.limit)) attrs))
-        (told parser.now.tokens.now) from result }
+        (lexemes_of parser.now.tokens.now) from result }
     ensures parsed { IsParsed (λ attrs. InBraces (MaybeListed (AttrOf (IsExprAt parser.now.limit)) attrs)) Anything
-        (told parser.now.tokens.now) from result }
+        (lexemes_of parser.now.tokens.now) from result }
     // what the reader of this rule finds, which the parsers that call this build on
     ensures reads { Reads (attributes_with (expr_at parser.now.limit)) parser.now.tokens.now from result }
 {

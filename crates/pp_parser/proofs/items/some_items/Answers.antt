@@ -1,5 +1,5 @@
 use Rattle.std.proofs.Common.{◌+◌, ◌-◌, sym, ap, ◌∙◌, drop}
-use Rattle.pp_syntax.specs.Lexing.{told}
+use Rattle.pp_syntax.specs.Lexing.{lexemes_of}
 use Rattle.pp_readers.specs.Expressions.{with_front, expr_at}
 use Rattle.pp_readers.specs.Combining.{many}
 use Rattle.pp_readers.specs.Statements.{stmt_at}
@@ -10,7 +10,7 @@ use Rattle.pp_parser.proofs.items.some_items.Goals as goal
 
 pub loop-turn-preserved : goal.loop-turn-preserved
 loop-turn-preserved c =
-    let ts = told c.args.tokens.now in
+    let ts = lexemes_of c.args.tokens.now in
     ap (λ xs. with_front xs (many has_token (item_with (expr_at c.args.depth) (type_at c.args.depth) (stmt_at (expr_at c.args.depth) c.args.depth)) (c.args.turns - (c.loop-turn._turn + 1)) (drop c.in_ok-item.more ts))) c.in_ok-push.ensures.ok
     ∙ sym (many_goes_on has_token (item_with (expr_at c.args.depth) (type_at c.args.depth) (stmt_at (expr_at c.args.depth) c.args.depth)) c.loop-turn.found c.args.turns c.loop-turn._turn (drop c.loop-turn.rest ts) (drop c.in_ok-item.more ts) c.in_ok-item.item
     c.loop-turn-test.true (sym c.has_token.ensures ∙ c.if-has_token.true) c.in_ok-item.ensures)
@@ -18,6 +18,6 @@ loop-turn-preserved c =
 
 pub returns-else-has_token : goal.returns-else-has_token
 returns-else-has_token c =
-    let ts = told c.args.tokens.now in
+    let ts = lexemes_of c.args.tokens.now in
     sym c.loop-turn.invariant
     ∙ many_ends has_token (item_with (expr_at c.args.depth) (type_at c.args.depth) (stmt_at (expr_at c.args.depth) c.args.depth)) c.loop-turn.found c.args.turns c.loop-turn._turn (drop c.loop-turn.rest ts) c.loop-turn-test.true (sym c.has_token.ensures ∙ c.if-has_token.false)

@@ -1,5 +1,5 @@
 use Rattle.std.proofs.Common.{◌≡◌, ◌-◌, drop}
-use Rattle.pp_syntax.specs.Lexing.{told}
+use Rattle.pp_syntax.specs.Lexing.{lexemes_of}
 use Rattle.pp_readers.specs.Expressions.{with_front, expr_at}
 use Rattle.pp_readers.specs.Combining.{many}
 use Rattle.pp_readers.specs.Statements.{stmt_at}
@@ -9,4 +9,4 @@ use Rattle.pp_parser.proofs.items.some_items.Given as goal
 
 -- what was read so far, and what reading the rest gives in the turns that are left
 abbrev pub invariant-loop-turn : goal.invariant-loop-turn
-invariant-loop-turn l = with_front l.found (many has_token (item_with (expr_at l.depth) (type_at l.depth) (stmt_at (expr_at l.depth) l.depth)) (l.turns - l._turn) (drop l.rest (told l.tokens))) ≡ many has_token (item_with (expr_at l.depth) (type_at l.depth) (stmt_at (expr_at l.depth) l.depth)) l.turns (drop l.from (told l.tokens))
+invariant-loop-turn l = with_front l.found (many has_token (item_with (expr_at l.depth) (type_at l.depth) (stmt_at (expr_at l.depth) l.depth)) (l.turns - l._turn) (drop l.rest (lexemes_of l.tokens))) ≡ many has_token (item_with (expr_at l.depth) (type_at l.depth) (stmt_at (expr_at l.depth) l.depth)) l.turns (drop l.from (lexemes_of l.tokens))

@@ -1,6 +1,6 @@
 use Rattle.std.proofs.Common.{◌+◌, ◌-◌, Some, sym, ap, ◌∙◌, drop}
 use Rattle.std.specs.Prelude.{codes}
-use Rattle.pp_syntax.specs.Lexing.{told}
+use Rattle.pp_syntax.specs.Lexing.{lexemes_of}
 use Rattle.pp_readers.specs.Expressions.{with_front, expr_at}
 use Rattle.pp_readers.specs.Combining.{listed}
 use Rattle.pp_readers.specs.Names.{begins_name}
@@ -10,7 +10,7 @@ use Rattle.pp_statement.proofs.resource.some_attrs.Goals as goal
 
 pub loop-turn-preserved : goal.loop-turn-preserved
 loop-turn-preserved c =
-    let ts = told c.args.tokens.now in
+    let ts = lexemes_of c.args.tokens.now in
     ap (λ xs. with_front xs (listed (codes ",") begins_name (attr_with (expr_at c.args.limit)) (c.args.turns - (c.loop-turn._turn + 1)) (drop c.in-Some.behind ts))) c.in_ok-push.ensures.ok
     ∙ sym (listed_goes_on (codes ",") begins_name (attr_with (expr_at c.args.limit)) c.loop-turn.found c.args.turns c.loop-turn._turn c.in-Some.field-0-0 (drop c.loop-turn.rest ts) (drop c.in_ok-item.more ts) (drop c.in-Some.behind ts) c.in_ok-item.item
     c.loop-turn-test.true (sym c.begins_name.ensures ∙ c.if-begins_name.true) c.in_ok-item.ensures (sym c.in-Some.ensures))
@@ -18,7 +18,7 @@ loop-turn-preserved c =
 
 pub returns-in_default : goal.returns-in_default
 returns-in_default c =
-    let ts = told c.args.tokens.now in
+    let ts = lexemes_of c.args.tokens.now in
     sym c.loop-turn.invariant
     ∙ listed_last (codes ",") begins_name (attr_with (expr_at c.args.limit)) c.loop-turn.found c.args.turns c.loop-turn._turn (drop c.loop-turn.rest ts) (drop c.in_ok-item.more ts) c.in_ok-item.item
     c.loop-turn-test.true (sym c.begins_name.ensures ∙ c.if-begins_name.true) c.in_ok-item.ensures (sym c.in_default.ensures)
@@ -26,6 +26,6 @@ returns-in_default c =
 
 pub returns-else-begins_name : goal.returns-else-begins_name
 returns-else-begins_name c =
-    let ts = told c.args.tokens.now in
+    let ts = lexemes_of c.args.tokens.now in
     sym c.loop-turn.invariant
     ∙ listed_ends (codes ",") begins_name (attr_with (expr_at c.args.limit)) c.loop-turn.found c.args.turns c.loop-turn._turn (drop c.loop-turn.rest ts) c.loop-turn-test.true (sym c.begins_name.ensures ∙ c.if-begins_name.false)
