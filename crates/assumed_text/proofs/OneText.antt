@@ -18,7 +18,8 @@ use Rattle.assumed_text.specs.declared.assumed.Assumed.TheVariants.{Nothing, Ref
 use Rattle.assumed_text.specs.declared.assumed.Assumption.{Assumption}
 use Rattle.assumed_text.specs.Assumptions.{IfPathMayBeManaged, IsSoundBehavior, IsSound, IsSoundAssumption}
 use Rattle.assumed_text.specs.Form.{ArePathsAt, IsPathAt, IsBehavior, IsAssumed, AreAssumptions, SaysAssumptions, IsAssumptionsText}
-use Rattle.assumed_text.specs.Reading.{all_rows, IfForm}
+use Rattle.json_parts.specs.Forms.{IfForm}
+use Rattle.assumed_text.specs.Reading.{all_rows}
 use Rattle.assumed_text.proofs.SubjectLaws.{ReferencesWhere}
 use Rattle.assumed_text.proofs.PathLaws.{OnceWhere}
 use Rattle.assumed_text.proofs.FormLaws.{says_back}

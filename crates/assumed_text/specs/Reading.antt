@@ -6,8 +6,6 @@ use Rattle.serde_json.specs.Data.{Data, Members, no_members, member}
 use Rattle.serde_json.specs.Find.{get, as_object, as_array, as_str, as_number, as_u64}
 use Rattle.serde_json.specs.Events.{members_len}
 use Rattle.rh_base.specs.Reading.{◌>>=◌}
-use Rattle.rh_base.specs.declared.misread.Misread.{Misread}
-use Rattle.rh_base.specs.declared.misread.Misread.TheVariants as misread
 use Rattle.fs_semantics.specs.FileTree.{Path, IsSegment, is_among}
 use Rattle.pp_value.specs.Keys.{value_at}
 use Rattle.pkg_listing.specs.Reading.{path_of, folders_of}
@@ -141,11 +139,6 @@ abbrev pub all_rows : Data → Option (List Assumption)
 all_rows d = as_object d >>= (λ members. rows_with d (members_len members))
 
 -- ---- what the parts of the code do
-
--- a fact where the fault is that the text has another form
-abbrev pub IfForm : Misread → Type 0 → Type 0
-IfForm misread.Form P = P
-IfForm (misread.Memory m) P = Unit {0}
 
 -- each path is made of segments
 abbrev pub IfProper : Option Path → Type 0

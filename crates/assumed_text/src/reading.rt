@@ -7,7 +7,8 @@ ghost use Rattle.rh_base.specs.Reading.{Gives};
 ghost use Rattle.rh_base.specs.Refused.{IfRefused, IsRefusal};
 ghost use Rattle.assumed_text.specs.declared.assumed.Assumption.{Assumption as Row};
 ghost use Rattle.assumed_text.specs.Form.{SaysAssumptions, IsAssumptionsText};
-ghost use Rattle.assumed_text.specs.Reading.{has_version, assumption_of, rows_of, rows_in, rows_with, all_rows, IfForm, IsProperAssumption};
+ghost use Rattle.json_parts.specs.Forms.{IfForm};
+ghost use Rattle.assumed_text.specs.Reading.{has_version, assumption_of, rows_of, rows_in, rows_with, all_rows, IsProperAssumption};
 
 use crate::assumed::{Assumption, Assumptions};
 use crate::behavior::assumed_of;

@@ -11,7 +11,8 @@ use Rattle.rh_base.specs.Reading.{Fails}
 use Rattle.rh_base.specs.Refused.{IfRefused, IsRefusal}
 use Rattle.given_text.specs.declared.given.Given.{Given}
 use Rattle.given_text.specs.Form.{named, IsStated, IsSound, IsClosed, IsGivenBy, IsGivenText}
-use Rattle.given_text.specs.Reading.{stated_of, IfForm}
+use Rattle.json_parts.specs.Forms.{IfForm}
+use Rattle.given_text.specs.Reading.{stated_of}
 use Rattle.given_text.proofs.FormLaws.{stated_back}
 use Rattle.given_text.proofs.JustLaws.{same_tree}
 use Rattle.std.proofs.lemmas.Option.{none-some, same_Some}

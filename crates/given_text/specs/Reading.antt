@@ -6,8 +6,6 @@ use Rattle.serde_json.specs.Data.{Data, Members, no_members, member}
 use Rattle.serde_json.specs.Find.{get, as_object, as_array, as_number, as_u64}
 use Rattle.serde_json.specs.Events.{members_len}
 use Rattle.rh_base.specs.Reading.{◌>>=◌}
-use Rattle.rh_base.specs.declared.misread.Misread.{Misread}
-use Rattle.rh_base.specs.declared.misread.Misread.TheVariants as misread
 use Rattle.fs_semantics.specs.FileTree.{Path, Entry, Folder, IsSegment, Tree}
 use Rattle.pkg_listing.specs.Reading.{managed_path, path_of, folders_of}
 use Rattle.given_links.specs.declared.links.GivenLink.{GivenLink}
@@ -96,8 +94,3 @@ IsProperLink l = AllByRecursion IsSegment l.path × AllByRecursion IsSegment l.t
 
 abbrev pub IsProper : Given → Type 0
 IsProper g = AllByRecursion (AllByRecursion IsSegment) g.folders × AllByRecursion IsProperLink g.links
-
--- a fact where the fault is that the text has another form
-abbrev pub IfForm : Misread → Type 0 → Type 0
-IfForm misread.Form P = P
-IfForm (misread.Memory m) P = Unit {0}

@@ -8,7 +8,8 @@ ghost use Rattle.rh_base.specs.Refused.{IfRefused, IsRefusal};
 ghost use Rattle.fs_semantics.specs.FileTree.{IsSegment};
 ghost use Rattle.given_text.specs.declared.given.Given.{Given as Said};
 ghost use Rattle.given_text.specs.Form.{IsClosed, IsGivenBy, IsGivenText};
-ghost use Rattle.given_text.specs.Reading.{link_of, links_of, links_in, has_version, folders_in, stated_with, stated_of, IsProperLink, IsProper, IfForm};
+ghost use Rattle.json_parts.specs.Forms.{IfForm};
+ghost use Rattle.given_text.specs.Reading.{link_of, links_of, links_in, has_version, folders_in, stated_with, stated_of, IsProperLink, IsProper};
 
 use crate::checking::is_sound;
 use crate::folders::{named_tree, paths_in};

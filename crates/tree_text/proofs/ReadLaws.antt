@@ -26,7 +26,8 @@ use Rattle.fs_semantics.specs.FileTree.{Path, Folder, Tree, IsTree, IsSegment, i
 use Rattle.fs_semantics.specs.Entries.{IsFreeAt, IsFolderAt, IsWith}
 use Rattle.fs_lang.specs.PathText.{IsPathText, path_text}
 use Rattle.tree_text.specs.TreeText.{entry_data, HasMember, AreMembers, IsWithinLimits, IsTreeText}
-use Rattle.tree_text.specs.Reading.{IfForm, Fits, IsGrown}
+use Rattle.json_parts.specs.Forms.{IfForm}
+use Rattle.tree_text.specs.Reading.{Fits, IsGrown}
 use Rattle.tree_text.proofs.MemberLaws.{has_left, has_right, has_either}
 use Rattle.tree_text.proofs.WriteLaws.{SameText, SamePath, proper_at}
 use Rattle.tree_text.proofs.TextLaws.{same_entry}
