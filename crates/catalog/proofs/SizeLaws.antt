@@ -6,7 +6,7 @@ use Rattle.std.specs.Prelude.{slice_get, slice_set, filter}
 use Rattle.std.proofs.lemmas.Option.{slice_get-get_or}
 use Rattle.catalog_semantics.specs.States.{references_of, size_of_attributes, size_of_resources, declared_bound, attributes_limit, lacks}
 use Rattle.catalog.proofs.RefLaws.{placed_last, count_is}
-use Rattle.catalog.specs.Adding.{changed_at, made_real, given, place_in_text}
+use Rattle.catalog.specs.Adding.{changed_at, made_real, with_attributes, place_in_text}
 use Rattle.pp_value.specs.declared.value.Ref.{Ref}
 use Rattle.catalog.specs.Places.{placed, IsListed}
 use Rattle.catalog_semantics.proofs.Once.{refs_more}
@@ -126,23 +126,23 @@ changed_same (suc place) f g (q ∷ resources) r h e = ap (λ more. q ∷ more) 
 
 -- defaults that are filled in add their size
 pub size_filled : (place : ℕ) (pairs : List Pair) (resources : List Resource) (r : Resource) → slice_get resources place ≡ Some r
-    → size_of_resources (changed_at place (given pairs) resources) ≡ size_of_resources resources + size_of_attributes (filter (lacks r.attrs) pairs)
+    → size_of_resources (changed_at place (with_attributes pairs) resources) ≡ size_of_resources resources + size_of_attributes (filter (lacks r.attrs) pairs)
 size_filled place pairs resources r h =
-    let whole = size_changed place (given pairs) resources r h in
+    let whole = size_changed place (with_attributes pairs) resources r h in
     let parts = sizes_join r.attrs (filter (lacks r.attrs) pairs) in
     omega arith
 
 -- what stands beside the list is right with them
 pub listed_filled : (places : List (Ref × ℕ)) (size more place : ℕ) (pairs : List Pair) (resources : List Resource) (r : Resource) → IsListed places size resources
     → slice_get resources place ≡ Some r → more ≡ size + size_of_attributes (filter (lacks r.attrs) pairs) → more ≤ attributes_limit
-    → IsListed places more (changed_at place (given pairs) resources)
+    → IsListed places more (changed_at place (with_attributes pairs) resources)
 listed_filled places size more place pairs resources r h at sum small =
     let size_is = h.size_is in
     let few = h.few in
     let after = size_filled place pairs resources r at in
-    let count = count_stays place (given pairs) resources in
+    let count = count_stays place (with_attributes pairs) resources in
     record {
-      refs_are = h.refs_are ∙ ap (placed 0) (sym (references_stay place (given pairs) (λ r. refl) resources));
+      refs_are = h.refs_are ∙ ap (placed 0) (sym (references_stay place (with_attributes pairs) (λ r. refl) resources));
       size_is = omega arith;
       few = omega arith;
       small = small;

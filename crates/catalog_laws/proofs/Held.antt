@@ -21,7 +21,7 @@ use Rattle.catalog_semantics.specs.declared.state.Default.{Default}
 use Rattle.catalog_semantics.specs.declared.state.Holding.{Holding}
 use Rattle.catalog_semantics.specs.declared.state.State.{State}
 use Rattle.catalog_semantics.specs.Sites.{site_of}
-use Rattle.catalog_semantics.specs.States.{filled, as_added, is_class, with_resource, is_new, has_room, within_size, references_of, place_from, place_of}
+use Rattle.catalog_semantics.specs.States.{with_defaults, as_added, is_class, with_resource, is_new, has_room, within_size, references_of, place_from, place_of}
 use Rattle.catalog_semantics.specs.Declaring.{class_ref, entering, begun, ended}
 use Rattle.catalog_semantics.specs.Catalogs.{is_plain_sort, filled_behind, first_state, is_called_for, made_real, state_after, round_limit, all_there, few_enough, Catalog, catalog_in, catalog_of}
 use Rattle.catalog_semantics.specs.Frames.{Each, IsContainerAt}
@@ -126,14 +126,14 @@ skeleton_by true r q h = refl
 skeleton_by false r q h = h
 
 -- defaults leave the skeleton
-filled_skeleton : (defaults : List Default) (r : Resource) → skeleton (filled defaults r) ≡ skeleton r
+filled_skeleton : (defaults : List Default) (r : Resource) → skeleton (with_defaults defaults r) ≡ skeleton r
 filled_skeleton defaults r = skeleton_by (is_class r) r _ refl
 
 -- so does adding
 added_skeleton : (s : State) (r : Resource) → skeleton (as_added s r) ≡ skeleton r
 added_skeleton s r = either s.main_has_ended
   where
-    either : (b : Bool) → skeleton (cond b (filled s.defaults r) r) ≡ skeleton r
+    either : (b : Bool) → skeleton (cond b (with_defaults s.defaults r) r) ≡ skeleton r
     either true = filled_skeleton s.defaults r
     either false = refl
 
@@ -272,12 +272,12 @@ fills : (defaults : List Default) (done resources all : List Resource) → skele
     → Each (λ found. skeletons found ≡ skeletons all) (filled_behind defaults done resources)
 fills defaults done [] all same = ap skeletons (sym (append-nil done)) ∙ same
 fills defaults done (r ∷ rest) all same =
-    step_each (λ found. skeletons found ≡ skeletons all) (within_size r.at (done ++ filled defaults r ∷ rest)) _ (λ fits.
-    fills defaults (done ++ filled defaults r ∷ []) rest all (again ∙ same))
+    step_each (λ found. skeletons found ≡ skeletons all) (within_size r.at (done ++ with_defaults defaults r ∷ rest)) _ (λ fits.
+    fills defaults (done ++ with_defaults defaults r ∷ []) rest all (again ∙ same))
   where
-    again : skeletons ((done ++ filled defaults r ∷ []) ++ rest) ≡ skeletons (done ++ r ∷ rest)
+    again : skeletons ((done ++ with_defaults defaults r ∷ []) ++ rest) ≡ skeletons (done ++ r ∷ rest)
     again =
-        ap skeletons (append_assoc done (filled defaults r ∷ []) rest) ∙ map_both done (filled defaults r ∷ rest)
+        ap skeletons (append_assoc done (with_defaults defaults r ∷ []) rest) ∙ map_both done (with_defaults defaults r ∷ rest)
         ∙ ap (λ k. skeletons done ++ k ∷ skeletons rest) (filled_skeleton defaults r) ∙ sym (map_both done (r ∷ rest))
 
 -- ---- a whole manifest

@@ -21,7 +21,7 @@ use Rattle.catalog_semantics.specs.Sites.{Definition, Site, definition_of}
 use Rattle.catalog_semantics.specs.States.{State, Effect, is_new, has_room, within_size, as_added, added, declared_bound}
 use Rattle.catalog_semantics.specs.Effects.{effect_of}
 use Rattle.catalog_semantics.specs.Catalogs.{main_code, main_ended, first_state, made_real, realized, has_run, is_defined_sort, is_due}
-use Rattle.catalog_semantics.specs.Catalogs.{next_due, marked, type_runs, resource_runs, run_and_go_on, rounds, state_after, round_limit}
+use Rattle.catalog_semantics.specs.Catalogs.{next_due, counted_as_run, type_runs, resource_runs, run_and_go_on, rounds, state_after, round_limit}
 use Rattle.catalog_semantics.specs.Catalogs.{IsSettled}
 use Rattle.pp_eval.specs.Extending.{Begins}
 use Rattle.catalog_semantics.specs.Frames.{Each, Extends, Fits, IsContainerAt}
@@ -165,8 +165,8 @@ Runs place s t = (t.ran ≡ s.ran ++ place ∷ []) × Begins s.resources t.resou
 runs_one : (site : Site) (place : ℕ) (r : Resource) (d : Option Definition) (s : State) → IsContainerAt place s.resources → Each (Runs place s) (type_runs site place r d s)
 runs_one site place r None s at = (refl, begins_same s.resources)
 runs_one site place r (Some d) s at =
-    mapped (Extends (marked place s)) (Runs place s) (type_runs site place r (Some d) s) (λ t e. (e.ran, e.resources))
-    (body_keeps Extends extending (effect_of site) (statement_keeps Extends extending site) d place r defined_scope (marked place s) at)
+    mapped (Extends (counted_as_run place s)) (Runs place s) (type_runs site place r (Some d) s) (λ t e. (e.ran, e.resources))
+    (body_keeps Extends extending (effect_of site) (statement_keeps Extends extending site) d place r defined_scope (counted_as_run place s) at)
 
 -- ---- how often
 

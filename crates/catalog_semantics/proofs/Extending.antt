@@ -12,7 +12,7 @@ use Rattle.catalog_semantics.specs.declared.state.Pending.{Pending}
 use Rattle.catalog_semantics.specs.declared.state.Tie.{Tie}
 use Rattle.catalog_semantics.specs.Sites.{Definition, Site}
 use Rattle.catalog_semantics.specs.States.{State, Holding, in_turn, with_scopes, bound, as_added, is_new, has_room, within_size}
-use Rattle.catalog_semantics.specs.States.{added, held, tied, collected, wanted}
+use Rattle.catalog_semantics.specs.States.{added, held, tied, collected, with_pending}
 use Rattle.catalog_semantics.specs.Declaring.{entering, opened, begun, ended}
 use Rattle.catalog_semantics.specs.Rooms.{Room}
 use Rattle.catalog_semantics.specs.Effects.{effect_at, effect_of}
@@ -89,7 +89,7 @@ collects_extend c s = grows s s.scopes s.resources s.holdings s.ties (s.collecto
     (scopes_same s.scopes) (begins_same s.resources) (begins_same s.holdings) (begins_same s.ties) (begins_more s.collectors (c ∷ [])) (begins_same s.pending)
 
 -- so do references that are to be realized
-wants_extend : (more : List Pending) (s : State) → Extends s (wanted more s)
+wants_extend : (more : List Pending) (s : State) → Extends s (with_pending more s)
 wants_extend more s = grows s s.scopes s.resources s.holdings s.ties s.collectors (s.pending ++ more)
     (scopes_same s.scopes) (begins_same s.resources) (begins_same s.holdings) (begins_same s.ties) (begins_same s.collectors) (begins_more s.pending more)
 

@@ -13,7 +13,7 @@ use Rattle.pp_eval.specs.Scoping.{pairs_in}
 use Rattle.pp_data.specs.declared.data.Level.{Level}
 use Rattle.catalog_semantics.specs.declared.catalog.Resource.{Resource}
 use Rattle.catalog_semantics.specs.Sites.{site_of}
-use Rattle.catalog_semantics.specs.States.{State, Default, defaults_of, lacks, is_class, filled, as_added, is_new, has_room}
+use Rattle.catalog_semantics.specs.States.{State, Default, defaults_of, lacks, is_class, with_defaults, as_added, is_new, has_room}
 use Rattle.catalog_semantics.specs.States.{within_size, added}
 use Rattle.catalog_semantics.specs.Attributes.{names_of, AreClean, AreDistinct}
 use Rattle.catalog_semantics.proofs.DistinctNames.{distinct_behind, distinct_filled}
@@ -66,7 +66,7 @@ if_sound true x y h k = h
 if_sound false x y h k = k
 
 -- a resource with its defaults is sound
-filled_sound : (defaults : List Default) (r : Resource) → SoundDefaults defaults → IsSound r → IsSound (filled defaults r)
+filled_sound : (defaults : List Default) (r : Resource) → SoundDefaults defaults → IsSound r → IsSound (with_defaults defaults r)
 filled_sound defaults r d h =
     if_sound (is_class r) r _ h (
       (
@@ -110,7 +110,7 @@ adds_sound r sound s = step_each (StaySound s) (is_new r s) _ (λ new. step_each
     step_each (StaySound s) (within_size r.at (s.resources ++ as_added s r ∷ [])) _ (λ fits h. record {
       resources =
           all_last IsSound s.resources (as_added s r) h.resources
-          (if_sound s.main_has_ended (filled s.defaults r) r (filled_sound s.defaults r h.defaults sound) sound);
+          (if_sound s.main_has_ended (with_defaults s.defaults r) r (filled_sound s.defaults r h.defaults sound) sound);
       defaults = h.defaults;
     })))
 
@@ -119,9 +119,9 @@ fills_sound : (defaults : List Default) (done resources : List Resource) → Sou
     → AreSound done → AreSound resources → Each AreSound (filled_behind defaults done resources)
 fills_sound defaults done [] d h k = h
 fills_sound defaults done (r ∷ resources) d h k =
-    step_each AreSound (within_size r.at (done ++ filled defaults r ∷ resources)) _ (λ fits.
-    fills_sound defaults (done ++ filled defaults r ∷ []) resources d
-    (all_last IsSound done (filled defaults r) h (filled_sound defaults r d k.0)) k.1)
+    step_each AreSound (within_size r.at (done ++ with_defaults defaults r ∷ resources)) _ (λ fits.
+    fills_sound defaults (done ++ with_defaults defaults r ∷ []) resources d
+    (all_last IsSound done (with_defaults defaults r) h (filled_sound defaults r d k.0)) k.1)
 
 -- what is so under a condition is given under it
 under : {X : Type 0} (Q : X → Type 0) (A : Type 0) (x : Result X Refusal) → (A → Each Q x) → Each (λ t. A → Q t) x

@@ -9,7 +9,7 @@ use Rattle.pp_value.specs.declared.value.Ref.{Ref}
 use Rattle.pp_value.specs.declared.value.Value.{Value}
 use Rattle.pp_value.specs.Values.{Pair, value_at, same_ref}
 use Rattle.catalog_semantics.specs.declared.catalog.Resource.{Resource}
-use Rattle.catalog_semantics.specs.States.{Default, stands_in, defaults_of, lacks, is_class, filled}
+use Rattle.catalog_semantics.specs.States.{Default, stands_in, defaults_of, lacks, is_class, with_defaults}
 use Rattle.catalog_semantics.specs.Frames.{AreNewBehind, StandOnce}
 
 -- what is found first or further on is found, where it is found further on
@@ -25,7 +25,7 @@ stays_first name x (p ∷ pairs) more h =
 
 -- a resource's own attribute counts before a default
 pub attribute_wins : (defaults : List Default) (r : Resource) (name : List ℕ) (x : Value) → value_at name r.attrs ≡ Some x
-    → value_at name (filled defaults r).attrs ≡ Some x
+    → value_at name (with_defaults defaults r).attrs ≡ Some x
 attribute_wins defaults r name x h = either (is_class r)
   where
     more : List Pair

@@ -1,8 +1,8 @@
 //! Tests, as bits.
 
-ghost use Rattle.std.specs.Prelude.{◌≡◌, not, ◌&&◌, ◌||◌, length, IfOk};
+ghost use Rattle.std.specs.Prelude.{not, ◌&&◌, ◌||◌, IfOk};
 ghost use Rattle.fs_interpreter.specs.Meanings.{Grows, IsBit};
-ghost use Rattle.fs_interpreter.specs.States.{AreCells, cell_at};
+ghost use Rattle.fs_interpreter.specs.States.{AreCells, cell_at, Fits};
 ghost use Rattle.fs_interpreter.specs.Steps.{holds_in};
 ghost use Rattle.fs_lang.specs.Meaning.{test_of};
 
@@ -22,8 +22,7 @@ pub(crate) fn holds<B: Bits>(
     test: &Test,
     cells: &Cells<B>,
 ) -> Result<B::Bit, NoMemory>
-    requires cells { AreCells (B.meanings bits.old) cells.now }
-    requires places { length cells.now.present ≡ length table.now.paths }
+    requires { Fits (B.meanings bits.old) table.now cells.now }
     ensures gives { IfOk result
         (IsBit (B.meanings bits.new)
         (λ v. holds_in table.now (test_of test.now) (cell_at (B.meanings bits.old) v cells.now))) }
@@ -51,8 +50,7 @@ fn fails<B: Bits>(
     a: &Test,
     cells: &Cells<B>,
 ) -> Result<B::Bit, NoMemory>
-    requires cells { AreCells (B.meanings bits.old) cells.now }
-    requires places { length cells.now.present ≡ length table.now.paths }
+    requires { Fits (B.meanings bits.old) table.now cells.now }
     ensures gives { IfOk result
         (IsBit (B.meanings bits.new)
         (λ v. not (holds_in table.now (test_of a.now) (cell_at (B.meanings bits.old) v cells.now)))) }
@@ -71,8 +69,7 @@ fn both_hold<B: Bits>(
     b: &Test,
     cells: &Cells<B>,
 ) -> Result<B::Bit, NoMemory>
-    requires cells { AreCells (B.meanings bits.old) cells.now }
-    requires places { length cells.now.present ≡ length table.now.paths }
+    requires { Fits (B.meanings bits.old) table.now cells.now }
     ensures gives { IfOk result
         (IsBit (B.meanings bits.new)
         (λ v. holds_in table.now (test_of a.now) (cell_at (B.meanings bits.old) v cells.now) && holds_in table.now
@@ -93,8 +90,7 @@ fn one_holds<B: Bits>(
     b: &Test,
     cells: &Cells<B>,
 ) -> Result<B::Bit, NoMemory>
-    requires cells { AreCells (B.meanings bits.old) cells.now }
-    requires places { length cells.now.present ≡ length table.now.paths }
+    requires { Fits (B.meanings bits.old) table.now cells.now }
     ensures gives { IfOk result
         (IsBit (B.meanings bits.new)
         (λ v. holds_in table.now (test_of a.now) (cell_at (B.meanings bits.old) v cells.now) || holds_in table.now
