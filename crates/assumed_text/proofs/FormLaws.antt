@@ -2,8 +2,8 @@
 use Rattle.std.proofs.Common.{◌≡◌, ◌⊎◌, inl, inr, ℕ, ◌==◌, Bool, true, false, true≢false, cond, ◌||◌, ◌&&◌, List, [], ◌∷◌, Option, Some, None, option_map, bytes_eq, codes, refl, sym, ap, ap₂, subst, ◌∙◌, eqb-true}
 use Rattle.std.specs.List.{AllByRecursion}
 use Rattle.std.proofs.lemmas.Slice.Eq.{bytes_eq-Decides}
-use Rattle.serde_json.specs.Data.{Data, null, boolean, number, string, array, object, unsigned, negative, float, Members, no_members, member}
-use Rattle.serde_json.specs.Find.{get_member, as_object, as_array, as_number, as_u64}
+use Rattle.serde_json.specs.Data.{Data, null, boolean, number, string, array, object, Members, no_members, member}
+use Rattle.serde_json.specs.Find.{get_member, as_object, as_array}
 use Rattle.serde_json.specs.Events.{members_len}
 use Rattle.rh_base.specs.Reading.{◌>>=◌}
 use Rattle.fs_semantics.specs.FileTree.{Path, IsSegment}
@@ -14,13 +14,15 @@ use Rattle.assumed_text.specs.declared.assumed.Assumed.{Assumed}
 use Rattle.assumed_text.specs.declared.assumed.Assumed.TheVariants.{Nothing, Refused, Does}
 use Rattle.assumed_text.specs.declared.assumed.Assumption.{Assumption}
 use Rattle.assumed_text.specs.Form.{ArePathsAt, IsPathAt, IsAction, HasOnlyParts, HasAction, IsBehavior, IsAssumed, IsAssumption, AreAssumptions, SaysAssumptions}
-use Rattle.assumed_text.specs.Reading.{subject_of, is_action, has_only_parts, has_action, paths_in, path_in, behavior_with, behavior_of, if_fit, behaves, word_of, assumed_of, assumption_with, assumption_of, rows_of, is_one, has_version, rows_in, rows_with, all_rows, IfProper, IsProperBehavior, IsProper, IsProperAssumption}
+use Rattle.assumed_text.specs.Reading.{subject_of, is_action, has_only_parts, has_action, paths_in, path_in, behavior_with, behavior_of, if_fit, behaves, word_of, assumed_of, assumption_with, assumption_of, rows_of, rows_in, rows_with, all_rows, IfProper, IsProperBehavior, IsProper, IsProperAssumption}
 use Rattle.assumed_text.proofs.SubjectLaws.{ReferencesWhere, subject_where}
 use Rattle.assumed_text.proofs.PathLaws.{OnceWhere, fit_is, fit_back}
 use Rattle.std.proofs.lemmas.Bool.{and_parts}
 use Rattle.rh_base.proofs.Options.{bind_some, map_some, if_some, bind_goes}
 use Rattle.std.proofs.lemmas.Option.{none-some, same_Some}
 use Rattle.json_parts.proofs.DataLaws.{object_is, array_is}
+use Rattle.json_parts.specs.Versions.{has_version}
+use Rattle.json_parts.proofs.DataLaws.{version_is}
 
 -- ---- keys
 
@@ -257,27 +259,6 @@ rows_back references once (member key d members) (a ∷ rows) h =
     ∙ ap (option_map (λ l. a ∷ l)) (rows_back references once members rows h.1)
 
 -- ---- the whole
-
--- a number that is told to be 1 is there and is 1
-one_is : (o : Option ℕ) → is_one o ≡ true → o ≡ Some 1
-one_is None h = absurd (true≢false (sym h))
-one_is (Some n) h = ap (λ m. Some m) (eqb-true n 1 h)
-
--- JSON that gives a whole number is that number
-number_is : (d : Data) (n : ℕ) → (as_number d >>= as_u64) ≡ Some n → d ≡ number (unsigned n)
-number_is null n h = absurd (none-some n h)
-number_is (boolean b) n h = absurd (none-some n h)
-number_is (number (unsigned m)) n h = ap (λ k. number (unsigned k)) (same_Some m n h)
-number_is (number (negative z)) n h = absurd (none-some n h)
-number_is (number (float x)) n h = absurd (none-some n h)
-number_is (string s) n h = absurd (none-some n h)
-number_is (array items) n h = absurd (none-some n h)
-number_is (object _) n h = absurd (none-some n h)
-
--- a version that is told to be right is the number 1
-version_is : (o : Option Data) → has_version o ≡ true → o ≡ Some (number (unsigned 1))
-version_is None h = absurd (true≢false (sym h))
-version_is (Some d) h = ap (λ e. Some e) (number_is d 1 (one_is (as_number d >>= as_u64) h))
 
 -- assumptions that are read of what may stand there are read of an object
 some_rows : (o : Option Data) (rows : List Assumption) → rows_in o ≡ Some rows → (resources : Members) × (o ≡ Some (object resources)) × (rows_of resources ≡ Some rows)

@@ -3,7 +3,7 @@ use Rattle.std.specs.Prelude.{◌≡◌, ℕ, suc, ◌==◌, ◌||◌, ◌&&◌,
 use Rattle.std.specs.Str.{bytes_eq}
 use Rattle.std.specs.List.{list_any, AllByRecursion}
 use Rattle.serde_json.specs.Data.{Data, Members, no_members, member}
-use Rattle.serde_json.specs.Find.{get, as_object, as_array, as_str, as_number, as_u64}
+use Rattle.serde_json.specs.Find.{get, as_object, as_array, as_str}
 use Rattle.serde_json.specs.Events.{members_len}
 use Rattle.rh_base.specs.Reading.{◌>>=◌}
 use Rattle.fs_semantics.specs.FileTree.{Path, IsSegment, is_among}
@@ -18,6 +18,7 @@ use Rattle.assumed_text.specs.declared.assumed.Subject.TheVariants.{One, EachOf}
 use Rattle.assumed_text.specs.declared.assumed.Assumption.{Assumption}
 use Rattle.assumed_text.specs.declared.assumed.TheConstants.{BEHAVIOR_PATHS}
 use Rattle.assumed_text.specs.Assumptions.{is_of_type}
+use Rattle.json_parts.specs.Versions.{has_version}
 
 -- ---- subjects
 
@@ -114,16 +115,6 @@ assumption_of key d = subject_of key >>= (λ subject. option_map (assumption_wit
 abbrev pub rows_of : Members → Option (List Assumption)
 rows_of no_members = Some []
 rows_of (member key d members) = assumption_of key d >>= (λ a. option_map (λ rows. a ∷ rows) (rows_of members))
-
--- it is the number 1
-abbrev pub is_one : Option ℕ → Bool
-is_one None = false
-is_one (Some n) = n == 1
-
--- the version is told, and is the number 1
-abbrev pub has_version : Option Data → Bool
-has_version None = false
-has_version (Some d) = is_one (as_number d >>= as_u64)
 
 -- the assumptions of an object
 abbrev pub rows_in : Option Data → Option (List Assumption)

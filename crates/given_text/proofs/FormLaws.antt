@@ -1,8 +1,8 @@
 -- What is read of a text is what its form says, both ways.
-use Rattle.std.proofs.Common.{◌≡◌, ℕ, ◌==◌, true, cond, List, [], ◌∷◌, Option, Some, None, option_map, option_and_then, codes, refl, sym, ap, subst, ◌∙◌, eqb-true}
+use Rattle.std.proofs.Common.{◌≡◌, ℕ, ◌==◌, cond, List, [], ◌∷◌, Option, Some, None, option_map, codes, refl, sym, ap, subst, ◌∙◌, eqb-true}
 use Rattle.std.specs.List.{AllByRecursion}
-use Rattle.serde_json.specs.Data.{Data, null, boolean, number, string, array, object, unsigned, negative, float, Items, Members, no_members, member}
-use Rattle.serde_json.specs.Find.{get_member, as_object, as_array, as_number, as_u64}
+use Rattle.serde_json.specs.Data.{Data, string, array, object, Items, Members, no_members, member}
+use Rattle.serde_json.specs.Find.{get_member, as_object, as_array}
 use Rattle.serde_json.specs.Events.{members_len}
 use Rattle.rh_base.specs.Reading.{◌>>=◌}
 use Rattle.fs_semantics.specs.FileTree.{Path}
@@ -11,10 +11,12 @@ use Rattle.pkg_listing.proofs.FormLaws.{path_is, path_back, folders_are, folders
 use Rattle.given_links.specs.declared.links.GivenLink.{GivenLink}
 use Rattle.given_text.specs.declared.given.Given.{Given}
 use Rattle.given_text.specs.Form.{IsLinkOf, AreLinksOf, LinksAre, IsStated}
-use Rattle.given_text.specs.Reading.{link_with, link_of, links_of, links_in, is_one, has_version, given_with, folders_in, stated_with, stated_of, IsProperLink, IsProper}
+use Rattle.given_text.specs.Reading.{link_with, link_of, links_of, links_in, given_with, folders_in, stated_with, stated_of, IsProperLink, IsProper}
 use Rattle.rh_base.proofs.Options.{bind_some, map_some, if_some, bind_goes}
 use Rattle.std.proofs.lemmas.Option.{none-some, same_Some}
 use Rattle.json_parts.proofs.DataLaws.{object_is, array_is}
+use Rattle.json_parts.specs.Versions.{has_version}
+use Rattle.json_parts.proofs.DataLaws.{version_is}
 
 -- ---- links
 
@@ -67,29 +69,6 @@ many_back : (o : Option Data) (keys : ℕ) (links : List GivenLink) → LinksAre
 many_back None keys links h = ap (λ k. cond (k == 2) (Some []) None) h.1 ∙ ap (λ ls. Some ls) (sym h.0)
 many_back (Some d) keys links h =
     ap (λ k. cond (k == 3) (as_object d >>= links_of) None) h.3 ∙ ap (λ e. as_object e >>= links_of) h.1 ∙ links_back h.0 links h.2
-
--- ---- the version
-
--- a number that is told to be 1 is there and is 1
-one_is : (o : Option ℕ) → is_one o ≡ true → o ≡ Some 1
-one_is None h = cc
-one_is (Some n) h = ap (λ m. Some m) (eqb-true n 1 h)
-
--- JSON that gives a whole number is that number
-number_is : (d : Data) (n : ℕ) → option_and_then as_u64 (as_number d) ≡ Some n → d ≡ number (unsigned n)
-number_is null n h = absurd (none-some n h)
-number_is (boolean b) n h = absurd (none-some n h)
-number_is (number (unsigned m)) n h = ap (λ k. number (unsigned k)) (same_Some m n h)
-number_is (number (negative z)) n h = absurd (none-some n h)
-number_is (number (float x)) n h = absurd (none-some n h)
-number_is (string s) n h = absurd (none-some n h)
-number_is (array items) n h = absurd (none-some n h)
-number_is (object _) n h = absurd (none-some n h)
-
--- a version that is told to be right is the number 1
-version_is : (o : Option Data) → has_version o ≡ true → o ≡ Some (number (unsigned 1))
-version_is None h = cc
-version_is (Some d) h = ap (λ e. Some e) (number_is d 1 (one_is (option_and_then as_u64 (as_number d)) h))
 
 -- ---- folders and links
 
