@@ -9,22 +9,6 @@ use std::alloc::Global;
 use std::test::Fail;
 use test_rows::joined;
 
-/// Adds why a file has no content.
-fn add_why(
-    alloc: Global,
-    catalog: &CompiledCatalog,
-    fragments: &Fragments,
-    r: &CompiledResource,
-    line: &mut String,
-) -> Result<(), Fail>
-    requires { HoldsFragments catalog.now.resources fragments.now }
-{
-    if let Some(name) = why_unfilled(alloc, catalog, fragments, r)? {
-        add_all(&[" (no content: ", name, ")"], line)?;
-    }
-    Ok(())
-}
-
 /// Adds a word for a resource that does nothing, and why a file has no content.
 fn add_marks(
     alloc: Global,
@@ -36,7 +20,10 @@ fn add_marks(
     requires { HoldsFragments catalog.now.resources fragments.now }
 {
     line.push_str(if is_noop(r) { " (noop)" } else { "" })?;
-    add_why(alloc, catalog, fragments, r, line)
+    if let Some(name) = why_unfilled(alloc, catalog, fragments, r)? {
+        add_all(&[" (no content: ", name, ")"], line)?;
+    }
+    Ok(())
 }
 
 /// Adds the attributes of a resource.
