@@ -1,4 +1,4 @@
-use Rattle.std.proofs.Common.{◌≡◌, ℕ, suc, ◌-◌, List, ◌<◌, refl, ap, sym, ◌∙◌, subst, arith}
+use Rattle.std.proofs.Common.{◌≡◌, ℕ, suc, ◌-◌, List, ◌<◌, refl, ap, sym, ◌∙◌, subst, arith, rules}
 use Rattle.std.specs.Prelude.{slice_index, slice_set}
 use Rattle.orders.specs.Search.{State, state_of, target, work}
 use Rattle.orders.proofs.Steps.{entered_search, entered_less, finished_search, passed_search, passed_less, top_within, next_edge, next_within}
