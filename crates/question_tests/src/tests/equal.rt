@@ -2,13 +2,12 @@
 
 use super::asked::everywhere;
 use super::judging::refused;
-use super::programs::ordered;
+use super::programs::{ordered, plan_of};
 use determinism::First;
 use equal_graphs::Compared;
 use fs_lang::Program;
 use given_equal::compare_from;
 use orders::Order;
-use plans::Plan;
 use rh_base::{Boxed, Fault, NoMemory};
 use std::alloc::Global;
 use std::test::Fail;
@@ -50,17 +49,8 @@ fn told(
     right: &[Program],
     other: &Order,
 ) -> Result<String, Fail> {
-    if order.count() as usize != left.len() || other.count() as usize != right.len() {
-        return Err(Fail::from("as many nodes as programs"));
-    }
-    let one = Plan {
-        programs: left,
-        order,
-    };
-    let second = Plan {
-        programs: right,
-        order: other,
-    };
+    let one = plan_of(left, order)?;
+    let second = plan_of(right, other)?;
     let terms = everywhere(alloc, u64::MAX);
     let answer = Boxed::new(alloc, compare_from(alloc, &one, &second, &terms))?;
     Ok(shown(alloc, answer.get())?)

@@ -1,13 +1,12 @@
 //! Verdicts from the trees in which given folders stand.
 
 use super::judging::refused;
-use super::programs::{one_in_turn, ordered, unordered};
+use super::programs::{one_in_turn, ordered, plan_of, unordered};
 use fs_lang::{Path, PathFault, Program};
 use given_repair::repair_from;
 use given_verdict::{check_size_with, judge_from};
 use host_limits::Limits;
 use orders::Order;
-use plans::Plan;
 use question_terms::Terms;
 use repair::Repaired;
 use rh_base::{Boxed, Fault, NoMemory, Seq};
@@ -74,10 +73,7 @@ fn told_by(
     order: &Order,
     asked: &Terms,
 ) -> Result<String, Fail> {
-    if order.count() as usize != programs.len() {
-        return Err(Fail::from("as many nodes as programs"));
-    }
-    let plan = Plan { programs, order };
+    let plan = plan_of(programs, order)?;
     let answer = Boxed::new(alloc, judge_from(alloc, &plan, asked))?;
     Ok(shown(alloc, answer.get())?)
 }
@@ -246,10 +242,7 @@ fn added_by(
     order: &Order,
     asked: &Terms,
 ) -> Result<String, Fail> {
-    if order.count() as usize != programs.len() {
-        return Err(Fail::from("as many nodes as programs"));
-    }
-    let plan = Plan { programs, order };
+    let plan = plan_of(programs, order)?;
     let answer = Boxed::new(alloc, repair_from(alloc, &plan, asked))?;
     Ok(added(alloc, answer.get())?)
 }

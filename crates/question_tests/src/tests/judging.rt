@@ -1,10 +1,9 @@
 //! Answers to the question of order.
 
-use super::programs::{all_again, one_in_turn, ordered, unordered};
+use super::programs::{all_again, one_in_turn, ordered, plan_of, unordered};
 use determinism::{First, Sure, judge_order};
 use fs_lang::Program;
 use orders::Order;
-use plans::Plan;
 use rh_base::{Boxed, Fault, NoMemory};
 use std::alloc::Global;
 use std::test::Fail;
@@ -48,10 +47,7 @@ fn pruned_of(first: &First) -> u32 {
 
 /// What is answered of programs in this order.
 fn told_by(alloc: Global, programs: &[Program], order: &Order) -> Result<String, Fail> {
-    if order.count() as usize != programs.len() {
-        return Err(Fail::from("as many nodes as programs"));
-    }
-    let plan = Plan { programs, order };
+    let plan = plan_of(programs, order)?;
     let answer = Boxed::new(alloc, judge_order(alloc, &plan, u64::MAX)?)?;
     let first = answer.get();
     Ok(numbered(alloc, front_of(first), pruned_of(first) as u64, " pruned")?)

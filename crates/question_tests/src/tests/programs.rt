@@ -4,6 +4,7 @@ ghost use Rattle.std.specs.Prelude.{◌≡◌, IfOk, length};
 
 use fs_lang::{PathFault, Program};
 use orders::Order;
+use plans::Plan;
 use rh_base::Seq;
 use std::alloc::Global;
 use std::test::Fail;
@@ -76,4 +77,12 @@ pub fn ordered(alloc: Global, programs: &[Program], edges: &[(u32, u32)]) -> Res
         return Err(Fail::from("edges between the programs"));
     }
     Ok(Order::from_edges(alloc, n, edges)?)
+}
+
+/// These programs in this order, if it has as many nodes.
+pub fn plan_of<'a>(programs: &'a [Program], order: &'a Order) -> Result<Plan<'a>, Fail> {
+    if order.count() as usize != programs.len() {
+        return Err(Fail::from("as many nodes as programs"));
+    }
+    Ok(Plan { programs, order })
 }

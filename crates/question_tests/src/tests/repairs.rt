@@ -2,11 +2,10 @@
 
 use super::asked::everywhere;
 use super::judging::refused;
-use super::programs::{all_again, ordered, unordered};
+use super::programs::{all_again, ordered, plan_of, unordered};
 use fs_lang::Program;
 use given_repair::repair_from;
 use orders::Order;
-use plans::Plan;
 use repair::{Repaired, arrows};
 use rh_base::{Boxed, Fault, NoMemory};
 use std::alloc::Global;
@@ -51,10 +50,7 @@ fn shown(alloc: Global, repaired: &Result<Repaired, Fault>) -> Result<String, No
 /// What is answered of programs in this order.
 fn told_by(alloc: Global, programs: &[Program], order: &Order) -> Result<String, Fail> {
     arrows();
-    if order.count() as usize != programs.len() {
-        return Err(Fail::from("as many nodes as programs"));
-    }
-    let plan = Plan { programs, order };
+    let plan = plan_of(programs, order)?;
     let terms = everywhere(alloc, u64::MAX);
     let answer = Boxed::new(alloc, repair_from(alloc, &plan, &terms))?;
     Ok(shown(alloc, answer.get())?)
@@ -145,20 +141,11 @@ fn told_of_three(alloc: Global, edges: &[(u32, u32)]) -> Result<String, Fail> {
     told_in(alloc, all.as_slice(), edges)
 }
 
-fn is_told_of_three(
-    alloc: Global,
-    row: &str,
-    edges: &[(u32, u32)],
-    want: &str,
-) -> Result<(), Fail> {
-    let answer = told_of_three(alloc, edges)?;
-    same(alloc, row, answer.as_str(), want)
-}
-
 /// Each row: how the three are ordered, edges between them, and the arrows that are answered.
 fn are_told_of_three(alloc: Global, rows: &[(&str, &[(u32, u32)], &str)]) -> Result<(), Fail> {
     for (row, edges, want) in rows {
-        is_told_of_three(alloc, *row, *edges, *want)?;
+        let answer = told_of_three(alloc, *edges)?;
+        same(alloc, *row, answer.as_str(), *want)?;
     }
     Ok(())
 }

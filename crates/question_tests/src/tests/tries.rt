@@ -1,9 +1,8 @@
 //! Pairs of programs that are tried on a few trees, each row with what is found: two orders, and the paths of the tree.
 
-use super::programs::{ordered, unordered};
+use super::programs::{ordered, plan_of, unordered};
 use fs_lang::{Path, Program, Tree};
 use orders::Order;
-use plans::Plan;
 use rh_base::{Boxed, NoMemory};
 use std::alloc::Global;
 use std::test::Fail;
@@ -70,10 +69,7 @@ fn found_by(
     order: &Order,
     pair: (u32, u32),
 ) -> Result<String, Fail> {
-    if order.count() as usize != programs.len() {
-        return Err(Fail::from("as many nodes as programs"));
-    }
-    let plan = Plan { programs, order };
+    let plan = plan_of(programs, order)?;
     let answer = Boxed::new(alloc, try_pairs(alloc, &plan, &[pair]))?;
     Ok(shown(alloc, answer.get())?)
 }
@@ -224,10 +220,7 @@ fn found_on(
     order: &Order,
     tree: &Tree,
 ) -> Result<String, Fail> {
-    if order.count() as usize != programs.len() {
-        return Err(Fail::from("as many nodes as programs"));
-    }
-    let plan = Plan { programs, order };
+    let plan = plan_of(programs, order)?;
     let answer = Boxed::new(alloc, try_tree(alloc, &plan, &[(0, 1)], tree))?;
     Ok(shown(alloc, answer.get())?)
 }

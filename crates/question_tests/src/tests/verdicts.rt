@@ -2,11 +2,10 @@
 
 use super::asked::everywhere;
 use super::judging::refused;
-use super::programs::{all_again, one_in_turn, ordered, unordered};
+use super::programs::{all_again, one_in_turn, ordered, plan_of, unordered};
 use fs_lang::Program;
 use given_verdict::judge_from;
 use orders::Order;
-use plans::Plan;
 use rh_base::{Boxed, Fault, NoMemory};
 use std::alloc::Global;
 use std::test::Fail;
@@ -49,10 +48,7 @@ fn shown(alloc: Global, found: &Result<Verdict, Fault>) -> Result<String, NoMemo
 
 /// What is judged of programs in this order.
 fn told_by(alloc: Global, programs: &[Program], order: &Order) -> Result<String, Fail> {
-    if order.count() as usize != programs.len() {
-        return Err(Fail::from("as many nodes as programs"));
-    }
-    let plan = Plan { programs, order };
+    let plan = plan_of(programs, order)?;
     let terms = everywhere(alloc, u64::MAX);
     let answer = Boxed::new(alloc, judge_from(alloc, &plan, &terms))?;
     Ok(shown(alloc, answer.get())?)
