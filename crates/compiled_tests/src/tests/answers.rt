@@ -5,7 +5,7 @@ use pp_value::{Ref, Value, show, shown_ref};
 use rh_base::{NoMemory, Text};
 use std::alloc::Global;
 use std::test::Fail;
-use test_rows::{joined, refused, same};
+use test_rows::{refused, same};
 
 /// Adds these parts.
 pub fn add_all(parts: &[&str], line: &mut String) -> Result<(), NoMemory> {
@@ -125,18 +125,4 @@ pub fn answer(alloc: Global, bytes: &[u8]) -> Result<String, NoMemory> {
 pub fn is_answered(alloc: Global, row: &str, bytes: &[u8], want: &str) -> Result<(), Fail> {
     let told = answer(alloc, bytes)?;
     same(alloc, row, told.as_str(), want)
-}
-
-/// The text of these resources and edges.
-pub fn text_of(alloc: Global, resources: &str, edges: &str) -> Result<String, NoMemory> {
-    joined(
-        alloc,
-        &[
-            r#"{"catalog_format":2,"resources":["#,
-            resources,
-            r#"],"edges":["#,
-            edges,
-            "]}",
-        ],
-    )
 }

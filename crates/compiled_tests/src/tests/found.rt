@@ -1,15 +1,16 @@
 //! References and containers that are found.
 
-use super::answers::{add_all, text_of};
+use super::answers::add_all;
 use compiled_text::{CompiledCatalog, compiled_from_json, reference_of};
 use rh_base::NoMemory;
 use std::alloc::Global;
 use std::test::Fail;
+use test_hosts::catalog_of;
 use test_rows::same;
 
 /// A class in a stage, a file in the class, and one in nothing.
 fn catalog(alloc: Global) -> Result<CompiledCatalog, Fail> {
-    let text = text_of(
+    let text = catalog_of(
         alloc,
         r#"{"type":"Stage","title":"main","kind":"compilable_type"},{"type":"Class","title":"A","kind":"unknown"},{"type":"File","title":"/f","kind":"compilable_type"},{"type":"File","title":"/g","kind":"compilable_type"}"#,
         r#"{"source":"Stage[main]","target":"Class[A]"},{"source":"Class[A]","target":"File[/f]"}"#,

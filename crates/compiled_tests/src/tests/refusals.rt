@@ -1,9 +1,10 @@
 //! Texts that are no compiled catalogs.
 
-use super::answers::{answer, is_answered, text_of};
+use super::answers::{answer, is_answered};
 use rh_base::NoMemory;
 use std::alloc::Global;
 use std::test::Fail;
+use test_hosts::catalog_of;
 use test_rows::{joined, nested, same};
 
 fn is_refused(alloc: Global, row: &str, bytes: &[u8]) -> Result<(), Fail> {
@@ -65,7 +66,7 @@ fn texts_without_a_list(rt: HostRuntime) -> Result<(), Fail> {
 }
 
 fn both_are_refused(alloc: Global, resources: &str, edges: &str) -> Result<(), Fail> {
-    let text = text_of(alloc, resources, edges)?;
+    let text = catalog_of(alloc, resources, edges)?;
     is_refused(alloc, text.as_str(), text.as_bytes())
 }
 

@@ -1,11 +1,12 @@
 //! Resources and edges that are read.
 
-use super::answers::{is_answered, text_of};
+use super::answers::is_answered;
 use std::alloc::Global;
 use std::test::Fail;
+use test_hosts::catalog_of;
 
 fn is_read(alloc: Global, resources: &str, edges: &str, want: &str) -> Result<(), Fail> {
-    let text = text_of(alloc, resources, edges)?;
+    let text = catalog_of(alloc, resources, edges)?;
     is_answered(alloc, text.as_str(), text.as_bytes(), want)
 }
 

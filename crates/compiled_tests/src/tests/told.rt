@@ -2,11 +2,12 @@
 
 ghost use Rattle.compiled_attributes.specs.Places.{HoldsFragments};
 
-use super::answers::{add_all, add_parameter, add_ref, text_of};
+use super::answers::{add_all, add_parameter, add_ref};
 use compiled_attributes::{Fragments, attributes_of, is_noop, why_unfilled};
 use compiled_text::{CompiledCatalog, CompiledResource, compiled_from_json};
 use std::alloc::Global;
 use std::test::Fail;
+use test_hosts::catalog_of;
 use test_rows::joined;
 
 /// Adds a word for a resource that does nothing, and why a file has no content.
@@ -92,7 +93,7 @@ fn shown_of(alloc: Global, text: &str) -> Result<String, Fail> {
 
 /// The lines of these resources.
 pub fn told_of(alloc: Global, resources: &str) -> Result<String, Fail> {
-    let text = text_of(alloc, resources, "")?;
+    let text = catalog_of(alloc, resources, "")?;
     shown_of(alloc, text.as_str())
 }
 

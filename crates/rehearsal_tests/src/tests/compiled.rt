@@ -6,6 +6,7 @@ use super::common::{
 };
 use std::alloc::Global;
 use std::test::Fail;
+use test_hosts::catalog_of;
 use test_rows::joined;
 
 /// A resource: its type, its title, its parameters as members of JSON, and what else the text says of it, behind a comma.
@@ -71,24 +72,10 @@ fn edges(alloc: Global, all: &[Edge]) -> Result<String, Fail> {
     Ok(text)
 }
 
-/// The text of a compiled catalog that has resources and edges, as they stand in JSON.
-pub fn catalog_with(alloc: Global, resources: &str, edges: &str) -> Result<String, Fail> {
-    Ok(joined(
-        alloc,
-        &[
-            r#"{"catalog_format":2,"resources":["#,
-            resources,
-            r#"],"edges":["#,
-            edges,
-            "]}",
-        ],
-    )?)
-}
-
 /// The text of a compiled catalog that has edges and these resources, as they stand in JSON.
 fn with_edges(alloc: Global, resources: &str, held: &[Edge]) -> Result<String, Fail> {
     let edges = edges(alloc, held)?;
-    catalog_with(alloc, resources, edges.as_str())
+    Ok(catalog_of(alloc, resources, edges.as_str())?)
 }
 
 /// The text of a compiled catalog.

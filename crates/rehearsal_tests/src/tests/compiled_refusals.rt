@@ -1,8 +1,9 @@
 //! Catalogs that Puppet compiled, and what is refused of them.
 
-use super::compiled::{Edge, Res, VERIFY, catalog, catalog_with, is_refused};
+use super::compiled::{Edge, Res, VERIFY, catalog, is_refused};
 use std::alloc::Global;
 use std::test::Fail;
+use test_hosts::catalog_of;
 
 const RESOURCES: &[&str] = &["--compiled", "c", "--ask", "graph"];
 
@@ -67,7 +68,7 @@ const FORMS: [&str; 14] = [
 
 /// These resources, as they stand in JSON, are refused.
 fn form_is_refused(alloc: Global, resources: &str) -> Result<(), Fail> {
-    let text = catalog_with(alloc, resources, "")?;
+    let text = catalog_of(alloc, resources, "")?;
     is_refused(alloc, VERIFY, text.as_str(), "", MALFORMED)
 }
 

@@ -1,9 +1,10 @@
 //! Compiled catalogs at the limits: how many bytes, how many resources, and how large values.
 
 use super::common::{NONE, Told, compare_err, compare_status, compare_text, push_all, run_over};
-use super::compiled::{catalog_with, push_comma};
+use super::compiled::push_comma;
 use std::alloc::Global;
 use std::test::Fail;
+use test_hosts::catalog_of;
 use test_rows::{joined, number_text};
 
 const ASKED: &[&str] = &["--compiled", "c"];
@@ -62,7 +63,7 @@ fn listed(alloc: Global, count: u32, front: &str, parameters: &str) -> Result<St
 /// The text of a compiled catalog of them.
 fn many(alloc: Global, count: u32, front: &str, parameters: &str) -> Result<String, Fail> {
     let text = listed(alloc, count, front, parameters)?;
-    catalog_with(alloc, text.as_str(), "")
+    Ok(catalog_of(alloc, text.as_str(), "")?)
 }
 
 const FILE: &str = r#""type":"File","kind":"compilable_type""#;
