@@ -13,13 +13,13 @@ use Rattle.std.proofs.lemmas.Map.Keys.{sorted_head, sorted_tail}
 use Rattle.std.proofs.lemmas.List.Folds.{list_any-append}
 use Rattle.fs_semantics.specs.FileTree.{Path, path_cmp, path_eq, parent, is_among}
 use Rattle.fs_semantics.proofs.Trees.{path_total, path_eq_refl, path_eq_same}
-use Rattle.fs_semantics.proofs.Keys.{same_bool}
 use Rattle.fs_interpreter.specs.Places.{Listed, HasPath, place_in, one_further, or_added}
 use Rattle.finite_domain.specs.Matters.{fronts, all_fronts}
 use Rattle.path_domain.specs.Gathered.{Paths, with_one}
 use Rattle.path_domain.specs.Laid.{places_from, HaveParents}
 use Rattle.path_domain.proofs.TextLaws.{next_number, moved}
 use Rattle.std.proofs.Math.Bool.{or-false}
+use Rattle.path_domain.proofs.SetLaws.{path_eq_flip}
 
 -- ---- fronts
 
@@ -105,17 +105,13 @@ before_all (f ∷ front) rest p sorted =
     ap (λ b. b || is_among p front) (differs p f (at_last front rest p f (sorted_head path_cmp f (front ++ p ∷ rest) sorted)))
     ∙ before_all front rest p (sorted_tail path_cmp f (front ++ p ∷ rest) sorted)
 
--- two paths are one either way round
-pub flip : (p q : Path) → path_eq p q ≡ path_eq q p
-flip p q = same_bool (path_eq p q) (path_eq q p) (λ h. ap (λ r. path_eq r p) (sym (path_eq_same p q h)) ∙ path_eq_refl p) (λ h. ap (λ r. path_eq r q) (sym (path_eq_same q p h)) ∙ path_eq_refl q)
-
 -- a path that isn't among all has no place
 no_place : (ps : List Path) (p : Path) → is_among p ps ≡ false → place_in ps p ≡ None
 no_place [] p h = refl
 no_place (q ∷ ps) p h = elim (path_eq q p) as (λ b. (b || is_among p ps) ≡ false → cond b (Some 0) (one_further (place_in ps p)) ≡ None) [
   | true ↦ λ k. cc
   | false ↦ λ k. ap one_further (no_place ps p k)
-] (ap (λ b. b || is_among p ps) (flip q p) ∙ h)
+] (ap (λ b. b || is_among p ps) (path_eq_flip q p) ∙ h)
 
 -- the next path is put last
 pub next_path : (front rest all : List Path) (p : Path) → front ++ p ∷ rest ≡ all → Sorted all → or_added (place_in front p) front p ++ rest ≡ all

@@ -3,7 +3,7 @@ use Rattle.std.specs.List.{AllByRecursion}
 use Rattle.fs_lang.specs.Meaning.{program_of}
 use Rattle.equal_report.specs.Lines.{lines_of}
 use Rattle.equal_report.proofs.telling.report_of.Goals as goal
-use Rattle.ensured_entry.proofs.RunLaws.{below}
+use Rattle.equal_graphs.proofs.TryLaws.{below}
 
 pub lines_of-requires-clause-left : goal.lines_of-requires-clause-left
 lines_of-requires-clause-left c =
