@@ -150,7 +150,7 @@ role_row role.Other = serves (codes "other") (codes "other") task.Compare None
 role_row role.Tree = serves (codes "tree") (codes "tree") task.Replay (Some TREE_BYTES)
 role_row role.Order = serves (codes "order") (codes "order") task.Replay (Some ORDER_BYTES)
 role_row role.Assume = serves (codes "assume") (codes "assume") task.Assume (Some ASSUMED_BYTES)
-role_row role.Given = serves (codes "load_of") (codes "load_of") task.Model (Some GIVEN_BYTES)
+role_row role.Given = serves (codes "given") (codes "given") task.Model (Some GIVEN_BYTES)
 
 -- all of them, in the order in which they are read and refusals are looked for
 abbrev pub roles : List Role
@@ -223,7 +223,7 @@ options =
     ∷ (codes "data", codes "D")
     ∷ (codes "compiled", codes "C")
     ∷ (codes "assume", codes "S")
-    ∷ (codes "load_of", codes "G")
+    ∷ (codes "given", codes "G")
     ∷ (codes "limits", codes "L")
     ∷ []
 

@@ -7,7 +7,7 @@ use Rattle.cnf.specs.Formulas.{Formula}
 use Rattle.order_encode.specs.declared.witness.Witness.{Witness}
 use Rattle.answering.specs.declared.answering.Answer.{Answer}
 use Rattle.determinism.specs.declared.first.First.{First}
-use Rattle.verdict.specs.declared.verdict.Verdict.{Verdict}
+use Rattle.verdict.specs.declared.verdicts.Verdict.{Verdict}
 use Rattle.given_verdict.specs.declared.asking.Asking.{Asking}
 use Rattle.given_verdict.specs.First.{IsJudgedFrom}
 use Rattle.given_verdict.specs.Second.{StatesSecondFrom, IsSecondProofFrom, IsSettledFrom, AnswersAgainFrom, NeverChangedFrom, IsChangeTree, AnswersSecondFrom}
