@@ -4,8 +4,8 @@ use Rattle.given_verdict.specs.First.{IsJudgedFrom}
 use Rattle.given_verdict.proofs.VerdictLaws.{different, spent_first}
 use Rattle.given_verdict.proofs.judging.judge_on.Goals as goal
 
-pub judge_sure-requires-clause-judged : goal.judge_sure-requires-clause-judged
-judge_sure-requires-clause-judged c = subst (IsJudgedFrom c.args.asked.now.given.now (map program_of c.args.asked.now.plan.now.programs.now) c.args.asked.now.plan.now.order.now c.args.asked.now.budget) c.in-Sure.is c.requires.judged
+pub judge_sure-requires : goal.judge_sure-requires
+judge_sure-requires c = record { judged = subst (IsJudgedFrom c.args.asked.now.given.now (map program_of c.args.asked.now.plan.now.programs.now) c.args.asked.now.plan.now.order.now c.args.asked.now.budget) c.in-Sure.is c.requires.judged }
 
 pub returns-in-Differs : goal.returns-in-Differs
 returns-in-Differs c =
