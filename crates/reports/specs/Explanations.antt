@@ -40,4 +40,4 @@ pub record IsExplanation (asked : Asked) (i : Inputs) (m : Option Compiled) (c :
   pub named : AreNamed i m c g.plain names
   pub node : List ℕ
   pub noted : IsNodeNote i m node
-  pub name_and_line : IsExplained asked.terms (node ++ asked.notes) names es g.order report
+  pub told : IsExplained asked.terms (node ++ asked.notes) names es g.order report
