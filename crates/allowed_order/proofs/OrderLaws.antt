@@ -12,16 +12,7 @@ use Rattle.order_text.specs.OrderText.{IsOrderText}
 use Rattle.allowed_order.specs.Names.{position_of, with_names, positions_of}
 use Rattle.allowed_order.specs.AllowedOrder.{shown_at, AreToldApart, IsOrderNamed, IsOrderOf, IsOnlyOrder}
 use Rattle.allowed_order.proofs.NameLaws.{Tells, Finds, names_tell, names_find}
-
--- where two steps find something, the first did and the second went on from it
-step : {X Y : Type 0} (o : Option X) (f : X → Option Y) (y : Y) → (o >>= f) ≡ Some y → (x : X) × (o ≡ Some x) × (f x ≡ Some y)
-step None f y h = absurd (none-some y h)
-step (Some x) f y h = (x, refl, h)
-
--- an image comes from something
-mapped : {X Y : Type 0} (f : X → Y) (o : Option X) (y : Y) → option_map f o ≡ Some y → (x : X) × (o ≡ Some x) × (f x ≡ y)
-mapped f None y h = absurd (none-some y h)
-mapped f (Some x) y h = (x, refl, same_Some (f x) y h)
+use Rattle.rh_base.proofs.Options.{bind_some, map_some}
 
 -- ---- what texts name
 
@@ -30,8 +21,8 @@ module _ (c : Catalog) (all : List ℕ) (names : List (List ℕ × ℕ)) where
   texts_shown : Tells c all names → (texts : List (List ℕ)) (o : List ℕ) → positions_of names texts ≡ Some o → texts ≡ map (shown_at c all) o
   texts_shown tells [] o h = ap (map (shown_at c all)) (same_Some [] o h)
   texts_shown tells (t ∷ texts) o h =
-      let first = step (position_of t names) (λ i. option_map (λ is. i ∷ is) (positions_of names texts)) o h in
-      let rest = mapped (λ is. first.0 ∷ is) (positions_of names texts) o first.2 in
+      let first = bind_some (position_of t names) (λ i. option_map (λ is. i ∷ is) (positions_of names texts)) o h in
+      let rest = map_some (λ is. first.0 ∷ is) (positions_of names texts) o first.2 in
       subst (λ is. t ∷ texts ≡ map (shown_at c all) is) rest.2
       ((λ i. (tells t first.0 first.1).1 i ∷ texts_shown tells texts rest.0 rest.1 i))
 

@@ -2,6 +2,4 @@
 #![tactic(auto)]
 
 #[cfg(test)]
-mod allowed;
-#[cfg(test)]
-mod texts;
+mod tests;

@@ -13,17 +13,14 @@ use Rattle.sure_folders.specs.Before.{IsSureBeforeEither}
 use Rattle.commute_prune.specs.Doubtful.{AreApartWhereSure, AreTouching}
 use Rattle.settled_groups.specs.Groups.{in_turn, CommuteWhereSure, CommutesWithGroup, GroupsCommute}
 use Rattle.apart_groups.specs.Groups.{AreGroups, MeetIn, other_pairs, group_of, AreNumbered, IsWithin}
+use Rattle.fs_lang.proofs.NameLaws.{all_weaker}
+use Rattle.std.proofs.lemmas.List.{append-nil}
 
 -- what holds of all members holds of each
 of_member : (P : (ℕ × ℕ) → Type 0) (xs : List (ℕ × ℕ)) (x : ℕ × ℕ) → Contains xs x → AllByRecursion P xs → P x
 of_member P [] x h all = absurd (omega (arith, h.1))
 of_member P (y ∷ xs) x (zero, h, at) all = subst P at all.0
 of_member P (y ∷ xs) x (suc i, h, at) all = of_member P xs x (i, omega (arith, h), at) all.1
-
--- what follows from what holds of each holds of each
-each_of : (P Q : ℕ → Type 0) (xs : List ℕ) → ((k : ℕ) → P k → Q k) → AllByRecursion P xs → AllByRecursion Q xs
-each_of P Q [] f all = tt
-each_of P Q (x ∷ xs) f all = (f x all.0, each_of P Q xs f all.1)
 
 -- what holds of all, twice over, holds of all together
 both_of : (P Q : ℕ → Type 0) (xs : List ℕ) → AllByRecursion P xs → AllByRecursion Q xs → AllByRecursion (λ k. P k × Q k) xs
@@ -36,19 +33,19 @@ NumberedFrom numbers n groups = (i : ℕ) → i < length groups → AllByRecursi
 
 -- the programs of the first group have its number
 of_head : (numbers : List ℕ) (n : ℕ) (group : List ℕ) (groups : List (List ℕ)) → NumberedFrom numbers n (group ∷ groups) → AllByRecursion (λ k. group_of numbers k ≡ n) group
-of_head numbers n group groups h = each_of (λ k. group_of numbers k ≡ n + 0) (λ k. group_of numbers k ≡ n) group (λ k e. omega (arith, e)) (h 0 (omega arith))
+of_head numbers n group groups h = all_weaker (λ k. group_of numbers k ≡ n + 0) (λ k. group_of numbers k ≡ n) group (λ k e. omega (arith, e)) (h 0 (omega arith))
 
 -- and the others are numbered from the next one on
 of_tail : (numbers : List ℕ) (n : ℕ) (group : List ℕ) (groups : List (List ℕ)) → NumberedFrom numbers n (group ∷ groups) → NumberedFrom numbers (suc n) groups
-of_tail numbers n group groups h i low = each_of (λ k. group_of numbers k ≡ n + suc i) (λ k. group_of numbers k ≡ suc n + i) (get_or groups i []) (λ k e. omega (arith, e)) (h (suc i) (omega (arith, low)))
+of_tail numbers n group groups h i low = all_weaker (λ k. group_of numbers k ≡ n + suc i) (λ k. group_of numbers k ≡ suc n + i) (get_or groups i []) (λ k e. omega (arith, e)) (h (suc i) (omega (arith, low)))
 
 -- the programs of all groups have at least the first number
 later : (numbers : List ℕ) (n : ℕ) (groups : List (List ℕ)) → NumberedFrom numbers n groups → AllByRecursion (λ k. n ≤ group_of numbers k) (in_turn groups)
 later numbers n [] h = tt
 later numbers n (group ∷ groups) h =
     all_append (λ k. n ≤ group_of numbers k) group (in_turn groups)
-    (each_of (λ k. group_of numbers k ≡ n) (λ k. n ≤ group_of numbers k) group (λ k e. omega (arith, e)) (of_head numbers n group groups h))
-    (each_of (λ k. suc n ≤ group_of numbers k) (λ k. n ≤ group_of numbers k) (in_turn groups) (λ k e. omega (arith, e)) (later numbers (suc n) groups (of_tail numbers n group groups h)))
+    (all_weaker (λ k. group_of numbers k ≡ n) (λ k. n ≤ group_of numbers k) group (λ k e. omega (arith, e)) (of_head numbers n group groups h))
+    (all_weaker (λ k. suc n ≤ group_of numbers k) (λ k. n ≤ group_of numbers k) (in_turn groups) (λ k e. omega (arith, e)) (later numbers (suc n) groups (of_tail numbers n group groups h)))
 
 -- programs that are apart commute where the folders stand that are sure before them
 abbrev pub ApartCommute : List Program → (ℕ → ℕ → Bool) → Type 0
@@ -90,7 +87,7 @@ module _ (es : List Program) (before : ℕ → ℕ → Bool) (pairs : List (ℕ 
       let P : ℕ → Type 0 = λ k. k < length es in
       let rest = all_back P group (in_turn groups) low in
       let tail = of_tail numbers n group groups h in (
-        each_of (λ k. (k < length es) × (suc n ≤ group_of numbers k)) (CommutesWithGroup es (Told before) group) (in_turn groups)
+        all_weaker (λ k. (k < length es) × (suc n ≤ group_of numbers k)) (CommutesWithGroup es (Told before) group) (in_turn groups)
             (λ b both. with_later n b group both.0 (omega (arith, both.1)) (all_front P group (in_turn groups) low) (of_head numbers n group groups h))
             (both_of P (λ k. suc n ≤ group_of numbers k) (in_turn groups) rest (later numbers (suc n) groups tail)),
         groups_commute (suc n) groups rest tail,
@@ -98,20 +95,15 @@ module _ (es : List Program) (before : ℕ → ℕ → Bool) (pairs : List (ℕ 
 
   -- groups that have their numbers are numbered from zero on
   from_zero : (groups : List (List ℕ)) → AreNumbered numbers groups → NumberedFrom numbers 0 groups
-  from_zero groups h i low = each_of (λ k. group_of numbers k ≡ i) (λ k. group_of numbers k ≡ 0 + i) (get_or groups i []) (λ k e. omega (arith, e)) (h i low)
+  from_zero groups h i low = all_weaker (λ k. group_of numbers k ≡ i) (λ k. group_of numbers k ≡ 0 + i) (get_or groups i []) (λ k e. omega (arith, e)) (h i low)
 
   -- groups in an allowed order, each with its number, are groups that commute
   pub are_groups : (groups : List (List ℕ)) → IsLinearExtension (length es) (Told before) (in_turn groups) → AreNumbered numbers groups → AreGroups es before groups
   are_groups groups allowed numbered = record { allowed = allowed; commute = groups_commute 0 groups allowed.below (from_zero groups numbered) }
 
--- nothing behind numbers leaves them
-append_nil : (xs : List ℕ) → xs ++ [] ≡ xs
-append_nil [] = refl
-append_nil (x ∷ xs) = ap (λ ys. x ∷ ys) (append_nil xs)
-
 -- an allowed order is one group
 pub one_group : (es : List Program) (before : ℕ → ℕ → Bool) (order : List ℕ) → IsLinearExtension (length es) (Told before) order → AreGroups es before (order ∷ [])
-one_group es before order allowed = record { allowed = subst (IsLinearExtension (length es) (Told before)) (sym (append_nil order)) allowed; commute = (tt, tt) }
+one_group es before order allowed = record { allowed = subst (IsLinearExtension (length es) (Told before)) (sym (append-nil order)) allowed; commute = (tt, tt) }
 
 -- ---- pairs that meet
 

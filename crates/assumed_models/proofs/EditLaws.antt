@@ -11,10 +11,11 @@ use Rattle.fs_lang.specs.PathText.{path_text}
 use Rattle.fs_lang.specs.declared.program.Program.{Program as Code}
 use Rattle.fs_lang.specs.Meaning.{program_of}
 use Rattle.pp_value.specs.Keys.{value_at, with_pair}
-use Rattle.pkg_listing.proofs.SetLaws.{SameText, SamePath, agree}
+use Rattle.pkg_listing.proofs.SetLaws.{SameText, SamePath}
 use Rattle.assumed_models.specs.declared.edits.Edit.{Edit}
 use Rattle.assumed_models.specs.Edits.{edits_beside, marks_in, marks_of, places_of, or_none, AreFound, with_noted, with_all_noted, if_any, edits_at}
 use Rattle.assumed_models.specs.LostEdits.{drops}
+use Rattle.fs_semantics.proofs.Keys.{same_bool}
 
 -- the path is made of segments
 abbrev pub IsProper : Edit → Type 0
@@ -48,7 +49,7 @@ value_with key other x (p ∷ pairs) = at (bytes_eq p.0 key) refl (value_with ke
 -- the texts of paths are told to be equal exactly where the paths are
 same_test : SameText → SamePath → (q p : Path) → AllByRecursion IsSegment q → AllByRecursion IsSegment p → bytes_eq (path_text q) (path_text p) ≡ path_eq q p
 same_test texts paths q p is_q is_p =
-    agree (bytes_eq (path_text q) (path_text p)) (path_eq q p)
+    same_bool (bytes_eq (path_text q) (path_text p)) (path_eq q p)
     (λ h. (paths q p).1 (texts q p is_q is_p ((bytes_eq-Decides (path_text q) (path_text p)).0 h)))
     (λ h. (bytes_eq-Decides (path_text q) (path_text p)).1 (ap path_text ((paths q p).0 h)))
 

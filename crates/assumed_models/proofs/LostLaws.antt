@@ -1,14 +1,15 @@
 -- What becomes of a program in which edits are lost.
-use Rattle.std.proofs.Common.{◌≡◌, ◌≢◌, ◌⊎◌, inl, inr, Bool, true, false, List, [], ◌∷◌, ◌++◌, Option, Some, None, refl, sym, ap, ap₂, subst, ◌∙◌}
+use Rattle.std.proofs.Common.{◌≡◌, ◌≢◌, ◌⊎◌, inl, inr, Bool, true, false, List, [], ◌∷◌, ◌++◌, Option, Some, refl, sym, ap, ap₂, subst, ◌∙◌}
 use Rattle.std.specs.Prelude.{◌↔◌, IsTrue}
 use Rattle.std.specs.List.{flat_map}
 use Rattle.std.specs.FinMap as finite
 use Rattle.fs_semantics.specs.FileTree.{Path, Tree, path_eq}
 use Rattle.fs_semantics.specs.Entries.{IsFileAt}
-use Rattle.fs_semantics.specs.Programs.{Test, Program, Programs, Outcome, Id, Err, Mkdir, Creat, Link, Rm, Cp, Steps, If, none, next, and_then, run, run_all}
+use Rattle.fs_semantics.specs.Programs.{Test, Program, Programs, Id, Err, Mkdir, Creat, Link, Rm, Cp, Steps, If, none, next, run, run_all}
 use Rattle.fs_semantics.specs.Changes.{Changes, ChangesInSteps}
 use Rattle.model_semantics.specs.Words.{steps, sequence, drop_file}
 use Rattle.assumed_models.specs.LostEdits.{Writes, WritesInSteps, IsOneOf, LosesOne, drops, drops_behind, ahead, inside, all_inside, lost_steps, with_lost_edits}
+use Rattle.fs_semantics.proofs.ConstructLaws.{split_then}
 
 -- ---- steps as lists
 
@@ -173,11 +174,6 @@ changes_or_lost marks e q h = together marks e q (inside_changes marks e q) (in_
 
 -- ---- no mark stands behind what writes the file
 
--- two steps that end in a tree end in one each
-parts : (r : Outcome) (f : Tree → Outcome) (v : Tree) → and_then r f ≡ Some v → (u : Tree) × (r ≡ Some u) × (f u ≡ Some v)
-parts None f v h = cc
-parts (Some u) f v h = (u, refl, h)
-
 -- a drop changes no other path
 no_other : (m q : Path) → m ≢ q → Changes (drop_file q) m → ⊥
 no_other m q n (inl h) = n h
@@ -209,21 +205,21 @@ module _ (laws : Laws) where
       same_tree : (t u : Tree) → ◌≡◌ {A = Option Tree} (Some t) (Some u) → u ≡ t
       same_tree t u h = cc
   all_stay_gone m (q ∷ ms) t u h gone there =
-      let v = parts (run (drop_file q) t) (run_all (steps (drops ms))) u h in
+      let v = split_then (run (drop_file q) t) (run_all (steps (drops ms))) u h in
       all_stay_gone m ms v.0 u v.2 (stays_gone m q t v.0 v.1 gone) there
 
   -- behind drops no file stands at one of their paths
   all_gone : (m : Path) (ms : List Path) (t u : Tree) → IsOneOf m ms → run_all (steps (drops ms)) t ≡ Some u → IsFileAt u m → ⊥
   all_gone m [] t u one h there = one
   all_gone m (q ∷ ms) t u (inl e) h there =
-      let v = parts (run (drop_file q) t) (run_all (steps (drops ms))) u h in
+      let v = split_then (run (drop_file q) t) (run_all (steps (drops ms))) u h in
       all_stay_gone m ms v.0 u v.2 (λ here. laws.drop q t v.0 v.1 (subst (IsFileAt v.0) e here)) there
   all_gone m (q ∷ ms) t u (inr later) h there =
-      let v = parts (run (drop_file q) t) (run_all (steps (drops ms))) u h in
+      let v = split_then (run (drop_file q) t) (run_all (steps (drops ms))) u h in
       all_gone m ms v.0 u later v.2 there
 
   -- behind a program and drops no file stands at one of the marks
   pub lost : (e : Program) (ms : List Path) (t u : Tree) → run (sequence (e ∷ drops ms)) t ≡ Some u → (m : Path) → IsOneOf m ms → IsFileAt u m → ⊥
   lost e ms t u h m one there =
-      let v = parts (run e t) (run_all (steps (drops ms))) u (sym (laws.steps (e ∷ drops ms) t) ∙ h) in
+      let v = split_then (run e t) (run_all (steps (drops ms))) u (sym (laws.steps (e ∷ drops ms) t) ∙ h) in
       all_gone m ms v.0 u one v.2 there

@@ -7,11 +7,11 @@ use Rattle.fs_lang.specs.Names.{segment_of}
 use Rattle.pp_value.specs.Shown.{shown_ref}
 use Rattle.catalog_semantics.specs.declared.catalog.Resource.{Resource}
 use Rattle.pkg_listing.proofs.SetLaws.{SameText}
-use Rattle.model_semantics.specs.Words.{marked}
+use Rattle.model_semantics.specs.Words.{mark_path}
 use Rattle.assumed_models.specs.Behaviors.{edit_mark}
 
 -- marks of edits with equal parts have these equal
-two : (a b c d : List ℕ) → ◌≡◌ {A = Path} (marked (codes "edit") (a ∷ b ∷ [])) (marked (codes "edit") (c ∷ d ∷ [])) → (a ≡ c) × (b ≡ d)
+two : (a b c d : List ℕ) → ◌≡◌ {A = Path} (mark_path (codes "edit") (a ∷ b ∷ [])) (mark_path (codes "edit") (c ∷ d ∷ [])) → (a ≡ c) × (b ≡ d)
 two a b c d h = (cc, cc)
 
 -- the same mark of an edit is one of the same file and of the same resource

@@ -56,7 +56,7 @@ own_distinct (p ∷ attrs) h = at (not (is_metaparameter p.0)) (own_distinct att
     at false more = more
 
 -- past the end nothing is left
-past : (attrs : List Pair) (i : ℕ) → length attrs ≤ i → drop i attrs ≡ []
+pub past : (attrs : List Pair) (i : ℕ) → length attrs ≤ i → drop i attrs ≡ []
 past [] zero h = refl
 past [] (suc i) h = refl
 past (p ∷ attrs) zero h = absurd (omega (arith, h))

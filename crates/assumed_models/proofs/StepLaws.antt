@@ -1,5 +1,5 @@
 -- Steps of behaviors, and of programs in which edits are lost, as the code has them.
-use Rattle.std.proofs.Common.{◌≡◌, ◌+◌, ◌<◌, List, [], ◌∷◌, ◌++◌, map, Result, Ok, Err, IfOk, refl, sym, ap, subst, ◌∙◌, arith}
+use Rattle.std.proofs.Common.{◌≡◌, ◌+◌, ◌<◌, List, [], ◌∷◌, ◌++◌, map, Result, Ok, Err, IfOk, sym, ap, subst, ◌∙◌, arith}
 use Rattle.std.specs.List.{flat_map}
 use Rattle.fs_semantics.specs.FileTree.{Path}
 use Rattle.fs_semantics.specs.Programs as language
@@ -12,11 +12,7 @@ use Rattle.fs_lang.specs.Meaning.{test_of, program_of, programs_in, program_of_s
 use Rattle.model_semantics.specs.Words.{steps}
 use Rattle.assumed_models.specs.LostEdits.{inside, lost_steps, all_inside, with_lost_edits}
 use Rattle.assumed_models.proofs.LostLaws.{steps_lost}
-
--- the steps of a list are its programs as steps
-steps_are : (es : List Program) → programs_in es ≡ steps (map program_of es)
-steps_are [] = refl
-steps_are (e ∷ es) = ap (language.next (program_of e)) (steps_are es)
+use Rattle.model_words.proofs.StepLaws.{steps_are}
 
 -- a list of steps in which edits are lost
 pub lost_inside : (marks : Path → List Path) (es made : List Program) → map program_of made ≡ flat_map (lost_steps marks) (map program_of es) → program_of (program.Steps made) ≡ inside marks (program_of (program.Steps es))

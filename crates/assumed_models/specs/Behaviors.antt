@@ -13,7 +13,7 @@ use Rattle.catalog_semantics.specs.Attributes.{is_metaparameter}
 use Rattle.catalog_text.specs.Json.{json}
 use Rattle.model_semantics.specs.declared.kinds.Cause.{Cause}
 use Rattle.model_semantics.specs.declared.kinds.Cause.TheVariants as cause
-use Rattle.model_semantics.specs.Words.{sequence, dir, dirs, put, drop_file, need, marked}
+use Rattle.model_semantics.specs.Words.{sequence, dir, dirs, put, drop_file, need, mark_path}
 use Rattle.model_semantics.specs.Names.{is_name}
 use Rattle.assumed_text.specs.declared.assumed.Behavior.{Behavior}
 
@@ -33,7 +33,7 @@ made_content r p = codes "made:" ++ (shown_ref r.id ++ (codes ":" ++ (path_text 
 
 -- the file that stands for an edit of a file by a resource
 abbrev pub edit_mark : Resource → Path → Path
-edit_mark r p = marked (codes "edit") (segment_of (path_text p) ∷ segment_of (shown_ref r.id) ∷ [])
+edit_mark r p = mark_path (codes "edit") (segment_of (path_text p) ∷ segment_of (shown_ref r.id) ∷ [])
 
 -- ---- the steps
 

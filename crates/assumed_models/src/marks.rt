@@ -4,7 +4,7 @@ ghost use Rattle.std.specs.Prelude.{◌≡◌, [], ◌∷◌, ◌++◌, ◌<◌,
 ghost use Rattle.fs_lang.specs.Reading.{HasNo};
 ghost use Rattle.fs_lang.specs.Names.{replaced, is_dots, segment_of};
 ghost use Rattle.fs_lang.specs.PathText.{path_text};
-ghost use Rattle.model_semantics.specs.Words.{marked};
+ghost use Rattle.model_semantics.specs.Words.{mark_path};
 ghost use Rattle.assumed_models.specs.Behaviors.{edit_mark};
 
 use catalog_semantics::Resource;
@@ -55,7 +55,7 @@ fn segment_of(alloc: Global, name: &str) -> Result<Text, NoMemory>
 
 /// The folder of the marks of edits.
 fn edits_folder(alloc: Global) -> Result<Path, NoMemory>
-    ensures { IfOk result (λ p. p ≡ marked (codes "edit") []) }
+    ensures { IfOk result (λ p. p ≡ mark_path (codes "edit") []) }
 {
     let marks = top(alloc, ".rehearsal")?;
     below(alloc, &marks, "edit")
@@ -63,7 +63,7 @@ fn edits_folder(alloc: Global) -> Result<Path, NoMemory>
 
 /// The folder of the marks of a file's edits.
 fn edits_of(alloc: Global, p: &Path) -> Result<Path, NoMemory>
-    ensures { IfOk result (λ q. q ≡ marked (codes "edit") (segment_of (path_text p.now) ∷ [])) }
+    ensures { IfOk result (λ q. q ≡ mark_path (codes "edit") (segment_of (path_text p.now) ∷ [])) }
 {
     let edits = edits_folder(alloc)?;
     let text = p.text(alloc)?;

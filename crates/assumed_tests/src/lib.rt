@@ -2,10 +2,4 @@
 #![tactic(auto)]
 
 #[cfg(test)]
-mod answers;
-#[cfg(test)]
-mod found;
-#[cfg(test)]
-mod programs;
-#[cfg(test)]
-mod refusals;
+mod tests;

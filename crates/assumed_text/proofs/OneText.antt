@@ -12,28 +12,29 @@ use Rattle.rh_base.specs.Refused.{IfRefused, IsRefusal}
 use Rattle.fs_semantics.specs.FileTree.{Path}
 use Rattle.fs_lang.specs.Managed.{MayBeManaged}
 use Rattle.pkg_listing.specs.Form.{AreFolders}
-use Rattle.pkg_listing.proofs.FormLaws.{no_value, same_some}
 use Rattle.assumed_text.specs.declared.assumed.Behavior.{Behavior}
 use Rattle.assumed_text.specs.declared.assumed.Assumed.{Assumed}
 use Rattle.assumed_text.specs.declared.assumed.Assumed.TheVariants.{Nothing, Refused, Does}
 use Rattle.assumed_text.specs.declared.assumed.Assumption.{Assumption}
 use Rattle.assumed_text.specs.Assumptions.{IfPathMayBeManaged, IsSoundBehavior, IsSound, IsSoundAssumption}
 use Rattle.assumed_text.specs.Form.{ArePathsAt, IsPathAt, IsBehavior, IsAssumed, AreAssumptions, SaysAssumptions, IsAssumptionsText}
-use Rattle.assumed_text.specs.Reading.{all_rows, IfForm}
+use Rattle.json_parts.specs.Forms.{IfForm}
+use Rattle.assumed_text.specs.Reading.{all_rows}
 use Rattle.assumed_text.proofs.SubjectLaws.{ReferencesWhere}
 use Rattle.assumed_text.proofs.PathLaws.{OnceWhere}
 use Rattle.assumed_text.proofs.FormLaws.{says_back}
+use Rattle.std.proofs.lemmas.Option.{none-some, same_Some}
 
 -- ---- one list
 
 -- JSON says one list of assumptions only
 same_rows : ReferencesWhere → OnceWhere → (d : Data) (a b : List Assumption) → SaysAssumptions a d → SaysAssumptions b d → a ≡ b
-same_rows references once d a b is was = same_some a b (sym (says_back references once d a is) ∙ says_back references once d b was)
+same_rows references once d a b is was = same_Some a b (sym (says_back references once d a is) ∙ says_back references once d b was)
 
 -- and so does a text
 pub one_text : ReferencesWhere → OnceWhere → (bytes : List ℕ) (a b : List Assumption) → IsAssumptionsText bytes a → IsAssumptionsText bytes b → a ≡ b
 one_text references once bytes a b is was =
-    same_rows references once was.json a b (subst (SaysAssumptions a) (same_some is.json was.json (sym is.is_read ∙ was.is_read)) is.says) was.says
+    same_rows references once was.json a b (subst (SaysAssumptions a) (same_Some is.json was.json (sym is.is_read ∙ was.is_read)) is.says) was.says
 
 -- ---- they are sound
 
@@ -86,12 +87,12 @@ all_sound (a ∷ rows) (member key d members) h = (sound_assumed a.assumed d h.0
 
 -- where the fault is the form, the JSON says no assumptions
 pub says_none : ReferencesWhere → OnceWhere → (d : Data) (e : Misread) → Fails e (all_rows d) → IfForm e ((rows : List Assumption) → SaysAssumptions rows d → ⊥)
-says_none references once d misread.Form none = λ rows h. no_value rows (sym none ∙ says_back references once d rows h)
+says_none references once d misread.Form none = λ rows h. none-some rows (sym none ∙ says_back references once d rows h)
 says_none references once d (misread.Memory m) none = tt
 
 -- a text whose JSON says none says none
 no_text : (bytes : List ℕ) (d : Data) → read bytes ≡ Some d → ((rows : List Assumption) → SaysAssumptions rows d → ⊥) → (rows : List Assumption) → IsAssumptionsText bytes rows → ⊥
-no_text bytes d is none rows text = none rows (subst (SaysAssumptions rows) (same_some text.json d (sym text.is_read ∙ is)) text.says)
+no_text bytes d is none rows text = none rows (subst (SaysAssumptions rows) (same_Some text.json d (sym text.is_read ∙ is)) text.says)
 
 -- a refusal of JSON that says none is one of a text that says none
 pub refused_with : (bytes : List ℕ) (d : Data) (f : Fault) → read bytes ≡ Some d → ((rows : List Assumption) → SaysAssumptions rows d → ⊥) → IfRefused f (IsRefusal 66 0 (codes "assume"))

@@ -4,11 +4,12 @@ use Rattle.std.proofs.lemmas.Bool.{le-leb}
 use Rattle.rh_base.specs.Reading.{◌>>=◌}
 use Rattle.fs_semantics.specs.FileTree.{Path, is_among}
 use Rattle.pkg_listing.specs.Packages.{are_new, stand_once, AreApart}
-use Rattle.pkg_listing.proofs.FormLaws.{same_some, step, guarded, taken}
 use Rattle.assumed_text.specs.declared.assumed.Behavior.{Behavior}
 use Rattle.assumed_text.specs.declared.assumed.TheConstants.{BEHAVIOR_PATHS}
 use Rattle.assumed_text.specs.Assumptions.{paths_of}
 use Rattle.assumed_text.specs.Reading.{with_new, all_paths, if_fit}
+use Rattle.rh_base.proofs.Options.{bind_some, if_some, bind_goes}
+use Rattle.std.proofs.lemmas.Option.{same_Some}
 
 -- no path stands twice exactly where each differs from those behind it
 abbrev pub OnceWhere : Type 0
@@ -59,11 +60,11 @@ new_is seen (p ∷ ps) = at (is_among p seen) (new_is (seen ++ p ∷ []) ps)
 -- a behavior that passes as fit is itself, and its paths stand once and are few
 pub fit_is : OnceWhere → (b c : Behavior) → if_fit b ≡ Some c → (b ≡ c) × AreApart (paths_of b) × (length (paths_of b) ≤ BEHAVIOR_PATHS)
 fit_is once b c h =
-    let paths = step (all_paths b) (λ (ps : List Path). cond (nat_le (length ps) BEHAVIOR_PATHS) (Some b) None) c h in
-    let few = guarded (nat_le (length paths.0) BEHAVIOR_PATHS) (Some b) c paths.2 in
-    let new = guarded (are_new [] (paths_of b)) (Some (paths_of b)) paths.0 (sym (all_is b ∙ new_is [] (paths_of b)) ∙ paths.1) in
-    let same : paths_of b ≡ paths.0 = same_some (paths_of b) paths.0 new.1 in (
-      same_some b c few.1,
+    let paths = bind_some (all_paths b) (λ (ps : List Path). cond (nat_le (length ps) BEHAVIOR_PATHS) (Some b) None) c h in
+    let few = if_some (nat_le (length paths.0) BEHAVIOR_PATHS) (Some b) c paths.2 in
+    let new = if_some (are_new [] (paths_of b)) (Some (paths_of b)) paths.0 (sym (all_is b ∙ new_is [] (paths_of b)) ∙ paths.1) in
+    let same : paths_of b ≡ paths.0 = same_Some (paths_of b) paths.0 new.1 in (
+      same_Some b c few.1,
       (once (paths_of b)).0 new.0,
       subst (λ (ps : List Path). length ps ≤ BEHAVIOR_PATHS) (sym same) (leb-true (length paths.0) BEHAVIOR_PATHS few.0),
     )
@@ -71,6 +72,6 @@ fit_is once b c h =
 -- and one whose paths do passes
 pub fit_back : OnceWhere → (b : Behavior) → AreApart (paths_of b) → length (paths_of b) ≤ BEHAVIOR_PATHS → if_fit b ≡ Some b
 fit_back once b apart few =
-    taken (all_paths b) (λ (ps : List Path). cond (nat_le (length ps) BEHAVIOR_PATHS) (Some b) None) (paths_of b)
+    bind_goes (all_paths b) (λ (ps : List Path). cond (nat_le (length ps) BEHAVIOR_PATHS) (Some b) None) (paths_of b)
     (all_is b ∙ (new_is [] (paths_of b) ∙ ap (λ t. cond t (Some (paths_of b)) None) ((once (paths_of b)).1 apart)))
     ∙ ap (λ t. cond t (Some b) None) (le-leb (length (paths_of b)) BEHAVIOR_PATHS few)

@@ -10,15 +10,11 @@ use Rattle.serde_json.proofs.Views.{Entry, members_len-members_view}
 use Rattle.rh_base.specs.Reading.{◌>>=◌}
 use Rattle.assumed_text.specs.declared.assumed.Assumption.{Assumption}
 use Rattle.assumed_text.specs.Reading.{assumption_of, rows_of, rows_with, all_rows, IsProperAssumption}
+use Rattle.rh_base.proofs.Lists.{all_last}
 
 -- these assumptions were read, and these members are left of what says the whole
 abbrev pub AreRead : List Assumption → List Entry → Option (List Assumption) → Type 0
 AreRead rows es whole = (option_map (λ more. rows ++ more) (rows_of (members_view es)) ≡ whole) × AllByRecursion IsProperAssumption rows
-
--- what holds of all of a list and of one more holds of all with that one at the end
-all_last : {X : Type 0} (P : X → Type 0) (xs : List X) (x : X) → AllByRecursion P xs → P x → AllByRecursion P (xs ++ x ∷ [])
-all_last P [] x h k = (k, tt)
-all_last P (y ∷ xs) x h k = (h.0, all_last P xs x h.1 k)
 
 -- one assumption ahead of the rest is one behind those that were read
 by_more : (o : Option (List Assumption)) (rows : List Assumption) (a : Assumption) → option_map (λ more. (rows ++ a ∷ []) ++ more) o ≡ option_map (λ more. rows ++ more) (option_map (λ more. a ∷ more) o)

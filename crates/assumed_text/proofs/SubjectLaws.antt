@@ -2,18 +2,18 @@
 use Rattle.std.proofs.Common.{◌≡◌, ◌≢◌, ◌↔◌, ℕ, ◌==◌, Bool, true, false, true≢false, cond, ◌||◌, ◌&&◌, List, [], ◌∷◌, ◌++◌, Some, option_map, codes, refl, sym, ap, subst, ◌∙◌}
 use Rattle.std.specs.Char.{is_ascii_alphabetic}
 use Rattle.std.specs.List.{AllByRecursion}
-use Rattle.std.proofs.lemmas.Bool.{ne_eqb}
+use Rattle.std.proofs.lemmas.Bool.{ne_eqb, or_parts, or_right}
 use Rattle.pp_value.specs.declared.value.Ref.{Ref}
 use Rattle.pp_value.specs.Texts.{lowered}
 use Rattle.pp_eval.specs.Names.{is_colon, unrooted}
 use Rattle.pp_eval.specs.References.{ref_of}
-use Rattle.pkg_listing.proofs.FormLaws.{mapped}
 use Rattle.compiled_text.specs.Names.{is_word_byte, IsTypeSegment, behind_colons, IsType, IsReference}
 use Rattle.compiled_text.specs.Reading.{reference_of}
 use Rattle.assumed_text.specs.declared.assumed.Subject.{Subject}
 use Rattle.assumed_text.specs.declared.assumed.Subject.TheVariants.{One, EachOf}
 use Rattle.assumed_text.specs.Form.{IsSubject}
 use Rattle.assumed_text.specs.Reading.{has_bracket, type_of, subject_of}
+use Rattle.rh_base.proofs.Options.{map_some}
 
 -- a text is read as a reference exactly where it is one
 abbrev pub ReferencesWhere : Type 0
@@ -35,27 +35,17 @@ no_bracket : (text : List ℕ) → HaveNone text → has_bracket text ≡ false
 no_bracket [] h = refl
 no_bracket (c ∷ text) h = ap (λ t. t || has_bracket text) (ne_eqb c 91 h.0) ∙ no_bracket text h.1
 
--- of a disjunction that is false both sides are false
-neither : (a b : Bool) → (a || b) ≡ false → (a ≡ false) × (b ≡ false)
-neither true b h = absurd (true≢false h)
-neither false b h = (refl, h)
-
 -- and one that is told to have none has none
 none_stands : (text : List ℕ) → has_bracket text ≡ false → HaveNone text
 none_stands [] h = tt
 none_stands (c ∷ text) h =
-    let two = neither (c == 91) (has_bracket text) h in
+    let two = or_parts (c == 91) (has_bracket text) h in
     ((λ e. true≢false (sym (ap (λ d. d == 91) e) ∙ two.0)), none_stands text two.1)
-
--- a disjunction with a true right side is true
-or_true : (a b : Bool) → b ≡ true → (a || b) ≡ true
-or_true true b h = refl
-or_true false b h = h
 
 -- a text with a `[` is told to have one
 one_stands : (a r : List ℕ) → has_bracket (a ++ 91 ∷ r) ≡ true
 one_stands [] r = refl
-one_stands (c ∷ a) r = or_true (c == 91) (has_bracket (a ++ 91 ∷ r)) (one_stands a r)
+one_stands (c ∷ a) r = or_right (c == 91) (has_bracket (a ++ 91 ∷ r)) (one_stands a r)
 
 -- what stands before the first bracket
 front_same : (a b r s : List ℕ) → HaveNone a → HaveNone b → a ++ 91 ∷ r ≡ b ++ 91 ∷ s → a ≡ b
@@ -125,7 +115,7 @@ type_rooted text t = ap unrooted t.joined ∙ (rooted t.first (behind_colons t.o
 -- a key without a `[` that gives a type is of each of its resources
 type_found : ReferencesWhere → (key kind : List ℕ) → HaveNone key → type_of key ≡ Some kind → IsSubject (EachOf kind) key
 type_found references key kind none h =
-    let r = mapped (λ (r : Ref). r.kind) (reference_of (key ++ codes "[x]")) kind h in
+    let r = map_some (λ (r : Ref). r.kind) (reference_of (key ++ codes "[x]")) kind h in
     let is = (references (key ++ codes "[x]") r.0).0 r.1 in
     let same = front_same key is.type_text (120 ∷ 93 ∷ []) (is.title_text ++ 93 ∷ []) none (type_has_none is.type_text is.is_type) is.spelled in
     (subst IsType (sym same) is.is_type, sym r.2 ∙ (ap (λ (q : Ref). q.kind) is.names ∙ ap lowered (type_rooted is.type_text is.is_type ∙ sym same)))
@@ -147,8 +137,8 @@ subject_found : ReferencesWhere → (key : List ℕ) (s : Subject) → subject_o
 subject_found references key s h = at (has_bracket key) refl h
   where
     at : (t : Bool) → has_bracket key ≡ t → cond t (option_map One (reference_of key)) (option_map EachOf (type_of key)) ≡ Some s → IsSubject s key
-    at true e k = let r = mapped One (reference_of key) s k in subst (λ q. IsSubject q key) r.2 ((references key r.0).0 r.1)
-    at false e k = let kind = mapped EachOf (type_of key) s k in subst (λ q. IsSubject q key) kind.2 (type_found references key kind.0 (none_stands key e) kind.1)
+    at true e k = let r = map_some One (reference_of key) s k in subst (λ q. IsSubject q key) r.2 ((references key r.0).0 r.1)
+    at false e k = let kind = map_some EachOf (type_of key) s k in subst (λ q. IsSubject q key) kind.2 (type_found references key kind.0 (none_stands key e) kind.1)
 
 -- and the one that it names is read
 subject_back : ReferencesWhere → (key : List ℕ) (s : Subject) → IsSubject s key → subject_of key ≡ Some s

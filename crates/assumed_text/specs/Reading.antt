@@ -3,11 +3,9 @@ use Rattle.std.specs.Prelude.{◌≡◌, ℕ, suc, ◌==◌, ◌||◌, ◌&&◌,
 use Rattle.std.specs.Str.{bytes_eq}
 use Rattle.std.specs.List.{list_any, AllByRecursion}
 use Rattle.serde_json.specs.Data.{Data, Members, no_members, member}
-use Rattle.serde_json.specs.Find.{get, as_object, as_array, as_str, as_number, as_u64}
+use Rattle.serde_json.specs.Find.{get, as_object, as_array, as_str}
 use Rattle.serde_json.specs.Events.{members_len}
 use Rattle.rh_base.specs.Reading.{◌>>=◌}
-use Rattle.rh_base.specs.declared.misread.Misread.{Misread}
-use Rattle.rh_base.specs.declared.misread.Misread.TheVariants as misread
 use Rattle.fs_semantics.specs.FileTree.{Path, IsSegment, is_among}
 use Rattle.pp_value.specs.Keys.{value_at}
 use Rattle.pkg_listing.specs.Reading.{path_of, folders_of}
@@ -20,6 +18,7 @@ use Rattle.assumed_text.specs.declared.assumed.Subject.TheVariants.{One, EachOf}
 use Rattle.assumed_text.specs.declared.assumed.Assumption.{Assumption}
 use Rattle.assumed_text.specs.declared.assumed.TheConstants.{BEHAVIOR_PATHS}
 use Rattle.assumed_text.specs.Assumptions.{is_of_type}
+use Rattle.json_parts.specs.Versions.{has_version}
 
 -- ---- subjects
 
@@ -117,16 +116,6 @@ abbrev pub rows_of : Members → Option (List Assumption)
 rows_of no_members = Some []
 rows_of (member key d members) = assumption_of key d >>= (λ a. option_map (λ rows. a ∷ rows) (rows_of members))
 
--- it is the number 1
-abbrev pub is_one : Option ℕ → Bool
-is_one None = false
-is_one (Some n) = n == 1
-
--- the version is told, and is the number 1
-abbrev pub has_version : Option Data → Bool
-has_version None = false
-has_version (Some d) = is_one (as_number d >>= as_u64)
-
 -- the assumptions of an object
 abbrev pub rows_in : Option Data → Option (List Assumption)
 rows_in None = None
@@ -141,11 +130,6 @@ abbrev pub all_rows : Data → Option (List Assumption)
 all_rows d = as_object d >>= (λ members. rows_with d (members_len members))
 
 -- ---- what the parts of the code do
-
--- a fact where the fault is that the text has another form
-abbrev pub IfForm : Misread → Type 0 → Type 0
-IfForm misread.Form P = P
-IfForm (misread.Memory m) P = Unit {0}
 
 -- each path is made of segments
 abbrev pub IfProper : Option Path → Type 0

@@ -7,13 +7,15 @@ ghost use Rattle.rh_base.specs.Reading.{Gives};
 ghost use Rattle.rh_base.specs.Refused.{IfRefused, IsRefusal};
 ghost use Rattle.assumed_text.specs.declared.assumed.Assumption.{Assumption as Row};
 ghost use Rattle.assumed_text.specs.Form.{SaysAssumptions, IsAssumptionsText};
-ghost use Rattle.assumed_text.specs.Reading.{has_version, assumption_of, rows_of, rows_in, rows_with, all_rows, IfForm, IsProperAssumption};
+ghost use Rattle.json_parts.specs.Forms.{IfForm};
+ghost use Rattle.assumed_text.specs.Reading.{assumption_of, rows_of, rows_in, rows_with, all_rows, IsProperAssumption};
 
 use crate::assumed::{Assumption, Assumptions};
 use crate::behavior::assumed_of;
 use crate::laws::assumption_texts;
 use crate::subjects::subject_of;
 use compiled_text::compiled_texts;
+use json_parts::has_version;
 use pkg_listing::package_paths;
 use rh_base::{Fault, Misread, NoMemory, Seq};
 use serde_json::{Category, Map, Value as Json};
@@ -39,19 +41,6 @@ fn rows_of(alloc: Global, members: &Map<String, Json>) -> Result<Seq<Assumption>
         rows.push(assumption_of(alloc, key.as_str(), json)?)?;
     }
     Ok(rows)
-}
-
-/// Whether a version is told, and is the number 1.
-fn has_version(json: Option<&Json>) -> bool
-    ensures { result ≡ has_version (option_map (λ d. view d.now) json.entry) }
-{
-    match json {
-        Some(json) => match json.as_u64() {
-            Some(n) => n == 1,
-            None => false,
-        },
-        None => false,
-    }
 }
 
 /// The assumptions of an object.

@@ -2,8 +2,4 @@
 #![tactic(auto)]
 
 #[cfg(test)]
-mod limits;
-#[cfg(test)]
-mod outside;
-#[cfg(test)]
-mod values;
+mod tests;

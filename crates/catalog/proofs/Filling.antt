@@ -1,14 +1,14 @@
 -- Attributes that are filled in, one after the other.
-use Rattle.std.proofs.Common.{◌≡◌, ℕ, Bool, true, false, cond, List, [], ◌∷◌, ◌++◌, Option, Some, None, refl, ap, sym, ◌∙◌, append_assoc, append-nil}
+use Rattle.std.proofs.Common.{◌≡◌, ℕ, Bool, true, false, cond, List, [], ◌∷◌, ◌++◌, Some, None, refl, ap, sym, ◌∙◌, append_assoc, append-nil}
 use Rattle.std.specs.Prelude.{filter, is_none}
 use Rattle.std.specs.List.{AllByRecursion}
 use Rattle.std.specs.Str.{bytes_eq}
 use Rattle.std.specs.Cmp.Lexicographic.{nat_list_eq_equiv}
 use Rattle.pp_value.specs.Values.{Pair, value_at, HasDistinctKeys}
-use Rattle.pp_value.specs.declared.value.Value.{Value}
 use Rattle.pp_value.proofs.Distinct.{by_test, at_first, at_later}
 use Rattle.catalog_semantics.specs.States.{lacks}
 use Rattle.catalog.specs.Adding.{with_all_lacking}
+use Rattle.catalog_semantics.proofs.DistinctNames.{some_none}
 
 -- none of these has a key of the others
 abbrev AreNew : List Pair → List Pair → Type 0
@@ -19,15 +19,11 @@ front_found : (key : List ℕ) (a b : List Pair) → value_at key b ≡ None →
 front_found key [] b h = h
 front_found key (p ∷ a) b h = ap (cond (bytes_eq p.0 key) (Some p.1)) (front_found key a b h)
 
--- a value isn't both there and missing
-clash : (x : Value) (o : Option Value) → o ≡ Some x → o ≡ None → ⊥
-clash x o h k = let both : ◌≡◌ {A = Option Value} (Some x) None = sym h ∙ k in cc
-
 -- a name without a value differs from the first, and has none among the others
 differs : (key : List ℕ) (q : Pair) (pairs : List Pair) → value_at key (q ∷ pairs) ≡ None → (bytes_eq q.0 key ≡ false) × (value_at key pairs ≡ None)
 differs key q pairs h =
     by_test (bytes_eq q.0 key) ((bytes_eq q.0 key ≡ false) × (value_at key pairs ≡ None))
-    (λ e. absurd (clash q.1 (value_at key (q ∷ pairs)) (at_first key q pairs e) h))
+    (λ e. absurd (some_none q.1 (value_at key (q ∷ pairs)) (at_first key q pairs e) h))
     (λ e. (e, sym (at_later key q pairs e) ∙ h))
 
 -- those behind stay new when one of another name goes before them

@@ -13,7 +13,7 @@ use Rattle.pp_value.specs.Shown.{shown_ref}
 use Rattle.pp_eval.specs.Evaluating.{Refuses, refusal}
 use Rattle.catalog_semantics.specs.declared.catalog.Resource.{Resource}
 use Rattle.catalog_semantics.specs.States.{references_of, stands_in, within_size, attributes_limit, size_of_resources, size_of_attributes}
-use Rattle.catalog.specs.Adding.{added_last, added_to, filled_at, changed_at, given, place_in_text}
+use Rattle.catalog.specs.Adding.{added_last, added_to, filled_at, changed_at, with_attributes, place_in_text}
 use Rattle.catalog.proofs.SizeLaws.{size_last, place_is}
 
 -- a refusal that is the one that is due is due
@@ -57,11 +57,11 @@ module _ (limits : Limits) (r : Resource) (resources : List Resource) (new_one :
 
 module _ (place : ℕ) (pairs : List Pair) (resources : List Resource) (r : Resource) (there : slice_get resources place ≡ Some r) where
   -- defaults with which the attributes are too large are refused
-  pub filled_large : attributes_limit < size_of_resources (changed_at place (given pairs) resources) → filled_at place pairs resources ≡ Err (refusal 32 r.at (codes "attributes"))
+  pub filled_large : attributes_limit < size_of_resources (changed_at place (with_attributes pairs) resources) → filled_at place pairs resources ≡ Err (refusal 32 r.at (codes "attributes"))
   filled_large h =
-      too_many (place_in_text place resources) (changed_at place (given pairs) resources) h
+      too_many (place_in_text place resources) (changed_at place (with_attributes pairs) resources) h
       ∙ ap (λ at. Err (refusal 32 at (codes "attributes"))) (place_is place resources r there)
 
   -- and those with which they aren't are filled in
-  pub filled_fits : size_of_resources (changed_at place (given pairs) resources) ≤ attributes_limit → filled_at place pairs resources ≡ Ok (changed_at place (given pairs) resources)
-  filled_fits h = few_enough (place_in_text place resources) (changed_at place (given pairs) resources) h
+  pub filled_fits : size_of_resources (changed_at place (with_attributes pairs) resources) ≤ attributes_limit → filled_at place pairs resources ≡ Ok (changed_at place (with_attributes pairs) resources)
+  filled_fits h = few_enough (place_in_text place resources) (changed_at place (with_attributes pairs) resources) h

@@ -6,9 +6,10 @@ use Rattle.std.specs.Prelude.{slice_get, slice_set, filter}
 use Rattle.std.proofs.lemmas.Option.{slice_get-get_or}
 use Rattle.catalog_semantics.specs.States.{references_of, size_of_attributes, size_of_resources, declared_bound, attributes_limit, lacks}
 use Rattle.catalog.proofs.RefLaws.{placed_last, count_is}
-use Rattle.catalog.specs.Adding.{changed_at, made_real, given, place_in_text}
+use Rattle.catalog.specs.Adding.{changed_at, made_real, with_attributes, place_in_text}
 use Rattle.pp_value.specs.declared.value.Ref.{Ref}
 use Rattle.catalog.specs.Places.{placed, IsListed}
+use Rattle.catalog_semantics.proofs.Once.{refs_more}
 
 -- the size of two lists of attributes is the sum of both
 pub sizes_join : (a b : List Pair) → size_of_attributes (a ++ b) ≡ size_of_attributes a + size_of_attributes b
@@ -70,11 +71,6 @@ size_stays place [] = refl
 size_stays zero (r ∷ resources) = refl
 size_stays (suc place) (r ∷ resources) = ap (λ n. size_of_attributes r.attrs + n) (size_stays place resources)
 
--- one more resource is one more reference
-references_last : (resources : List Resource) (r : Resource) → references_of (resources ++ r ∷ []) ≡ references_of resources ++ r.id ∷ []
-references_last [] r = refl
-references_last (q ∷ resources) r = ap (λ more. q.id ∷ more) (references_last resources r)
-
 -- making a resource real leaves what stands beside the list right
 pub still_listed : (places : List (Ref × ℕ)) (size place : ℕ) (resources : List Resource) → IsListed places size resources → IsListed places size (changed_at place made_real resources)
 still_listed places size place resources h =
@@ -111,7 +107,7 @@ listed_more places size more resources r h room sum small =
     record {
       refs_are = ap (λ ps. ps ++ (r.id, length resources) ∷ []) h.refs_are
           ∙ (ap (λ n. placed 0 (references_of resources) ++ (r.id, n) ∷ []) place
-          ∙ (sym (placed_last 0 r.id (references_of resources)) ∙ ap (placed 0) (sym (references_last resources r))));
+          ∙ (sym (placed_last 0 r.id (references_of resources)) ∙ ap (placed 0) (sym (refs_more resources r))));
       size_is = omega arith;
       few = omega arith;
       small = small;
@@ -130,23 +126,23 @@ changed_same (suc place) f g (q ∷ resources) r h e = ap (λ more. q ∷ more) 
 
 -- defaults that are filled in add their size
 pub size_filled : (place : ℕ) (pairs : List Pair) (resources : List Resource) (r : Resource) → slice_get resources place ≡ Some r
-    → size_of_resources (changed_at place (given pairs) resources) ≡ size_of_resources resources + size_of_attributes (filter (lacks r.attrs) pairs)
+    → size_of_resources (changed_at place (with_attributes pairs) resources) ≡ size_of_resources resources + size_of_attributes (filter (lacks r.attrs) pairs)
 size_filled place pairs resources r h =
-    let whole = size_changed place (given pairs) resources r h in
+    let whole = size_changed place (with_attributes pairs) resources r h in
     let parts = sizes_join r.attrs (filter (lacks r.attrs) pairs) in
     omega arith
 
 -- what stands beside the list is right with them
 pub listed_filled : (places : List (Ref × ℕ)) (size more place : ℕ) (pairs : List Pair) (resources : List Resource) (r : Resource) → IsListed places size resources
     → slice_get resources place ≡ Some r → more ≡ size + size_of_attributes (filter (lacks r.attrs) pairs) → more ≤ attributes_limit
-    → IsListed places more (changed_at place (given pairs) resources)
+    → IsListed places more (changed_at place (with_attributes pairs) resources)
 listed_filled places size more place pairs resources r h at sum small =
     let size_is = h.size_is in
     let few = h.few in
     let after = size_filled place pairs resources r at in
-    let count = count_stays place (given pairs) resources in
+    let count = count_stays place (with_attributes pairs) resources in
     record {
-      refs_are = h.refs_are ∙ ap (placed 0) (sym (references_stay place (given pairs) (λ r. refl) resources));
+      refs_are = h.refs_are ∙ ap (placed 0) (sym (references_stay place (with_attributes pairs) (λ r. refl) resources));
       size_is = omega arith;
       few = omega arith;
       small = small;

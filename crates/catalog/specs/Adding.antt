@@ -40,8 +40,8 @@ with_all_lacking attributes [] = attributes
 with_all_lacking attributes (p ∷ pairs) = with_all_lacking (with_lacking attributes p) pairs
 
 -- a resource with those of the pairs whose names it hasn't got
-abbrev pub given : List Pair → Resource → Resource
-given pairs r = record r { attrs = r.attrs ++ filter (lacks r.attrs) pairs }
+abbrev pub with_attributes : List Pair → Resource → Resource
+with_attributes pairs r = record r { attrs = r.attrs ++ filter (lacks r.attrs) pairs }
 
 -- some resources, of which another stands in the place of one
 abbrev pub changed_at : ℕ → (Resource → Resource) → List Resource → List Resource
@@ -57,7 +57,7 @@ place_in_text (suc place) (r ∷ resources) = place_in_text place resources
 
 -- the one at a place with those of the pairs whose names it hasn't got, unless all attributes together are too large then
 abbrev pub filled_at : ℕ → List Pair → List Resource → Result (List Resource) Refusal
-filled_at place pairs resources = within_size (place_in_text place resources) (changed_at place (given pairs) resources)
+filled_at place pairs resources = within_size (place_in_text place resources) (changed_at place (with_attributes pairs) resources)
 
 abbrev pub with_filled : ℕ → List Pair → Catalog → Result Catalog Refusal
 with_filled place pairs c = with_resources c (filled_at place pairs c.resources)

@@ -21,13 +21,14 @@ use Rattle.catalog_semantics.specs.declared.state.Default.{Default}
 use Rattle.catalog_semantics.specs.declared.state.Holding.{Holding}
 use Rattle.catalog_semantics.specs.declared.state.State.{State}
 use Rattle.catalog_semantics.specs.Sites.{site_of}
-use Rattle.catalog_semantics.specs.States.{filled, as_added, is_class, with_resource, is_new, has_room, within_size, references_of, place_from, place_of}
+use Rattle.catalog_semantics.specs.States.{with_defaults, as_added, is_class, with_resource, is_new, has_room, within_size, references_of, place_from, place_of}
 use Rattle.catalog_semantics.specs.Declaring.{class_ref, entering, begun, ended}
 use Rattle.catalog_semantics.specs.Catalogs.{is_plain_sort, filled_behind, first_state, is_called_for, made_real, state_after, round_limit, all_there, few_enough, Catalog, catalog_in, catalog_of}
 use Rattle.catalog_semantics.specs.Frames.{Each, IsContainerAt}
 use Rattle.catalog_semantics.proofs.Keeping.{step_each, then_each, bound_each}
 use Rattle.catalog_semantics.proofs.Whole.{IsWholeFrame, whole_keeps, few_is}
 use Rattle.catalog_laws.specs.Containers.{AreHeld, IsClassAt, HoldClasses}
+use Rattle.rh_base.proofs.Lists.{all_last}
 
 -- ---- what a resource keeps
 
@@ -93,11 +94,6 @@ each_under : {A : Type 0} (P Q : A → Type 0) (xs : List A) → ((x : A) → P 
 each_under P Q [] f h = tt
 each_under P Q (x ∷ xs) f h = (f x h.0, each_under P Q xs f h.1)
 
--- what holds of some and of one more holds of all
-each_one_more : {A : Type 0} (P : A → Type 0) (xs : List A) (y : A) → AllByRecursion P xs → P y → AllByRecursion P (xs ++ y ∷ [])
-each_one_more P [] y h k = (k, tt)
-each_one_more P (x ∷ xs) y h k = (h.0, each_one_more P xs y h.1 k)
-
 -- one more resource is one more skeleton
 map_more : (xs : List Resource) (y : Resource) → skeletons (xs ++ y ∷ []) ≡ skeletons xs ++ skeleton y ∷ []
 map_more [] y = refl
@@ -113,7 +109,7 @@ held_more : (running : Option ℕ) (ks : List Skeleton) (holdings : List Holding
     → Held running (ks ++ k ∷ []) holdings
 held_more running ks holdings k h holder = record {
   runs = some_stays ks (k ∷ []) running h.runs;
-  holders = each_one_more (HasHolder (ks ++ k ∷ [])) ks k
+  holders = all_last (HasHolder (ks ++ k ∷ [])) ks k
       (each_under (HasHolder ks) (HasHolder (ks ++ k ∷ [])) ks (λ q c. some_stays ks (k ∷ []) q.holder c) h.holders) (last holder);
   classes = each_under (HasClass ks) (HasClass (ks ++ k ∷ [])) holdings (λ q c. (container_stays ks (k ∷ []) q.outer c.0, class_stays ks (k ∷ []) q.class c.1)) h.classes;
 }
@@ -130,14 +126,14 @@ skeleton_by true r q h = refl
 skeleton_by false r q h = h
 
 -- defaults leave the skeleton
-filled_skeleton : (defaults : List Default) (r : Resource) → skeleton (filled defaults r) ≡ skeleton r
+filled_skeleton : (defaults : List Default) (r : Resource) → skeleton (with_defaults defaults r) ≡ skeleton r
 filled_skeleton defaults r = skeleton_by (is_class r) r _ refl
 
 -- so does adding
 added_skeleton : (s : State) (r : Resource) → skeleton (as_added s r) ≡ skeleton r
 added_skeleton s r = either s.main_has_ended
   where
-    either : (b : Bool) → skeleton (cond b (filled s.defaults r) r) ≡ skeleton r
+    either : (b : Bool) → skeleton (cond b (with_defaults s.defaults r) r) ≡ skeleton r
     either true = filled_skeleton s.defaults r
     either false = refl
 
@@ -265,7 +261,7 @@ holds : (name : List ℕ) (outer class : ℕ) (s : State) → s.running ≡ Some
 holds name outer class s is at h = record {
   runs = h.runs;
   holders = h.holders;
-  classes = each_one_more (HasClass (skeletons s.resources)) s.holdings (record { outer = outer; class = class }) h.classes
+  classes = all_last (HasClass (skeletons s.resources)) s.holdings (record { outer = outer; class = class }) h.classes
       (subst (λ o. IfSome o (ContainerAt (skeletons s.resources))) is h.runs, class_found name s.resources class at);
 }
 
@@ -276,12 +272,12 @@ fills : (defaults : List Default) (done resources all : List Resource) → skele
     → Each (λ found. skeletons found ≡ skeletons all) (filled_behind defaults done resources)
 fills defaults done [] all same = ap skeletons (sym (append-nil done)) ∙ same
 fills defaults done (r ∷ rest) all same =
-    step_each (λ found. skeletons found ≡ skeletons all) (within_size r.at (done ++ filled defaults r ∷ rest)) _ (λ fits.
-    fills defaults (done ++ filled defaults r ∷ []) rest all (again ∙ same))
+    step_each (λ found. skeletons found ≡ skeletons all) (within_size r.at (done ++ with_defaults defaults r ∷ rest)) _ (λ fits.
+    fills defaults (done ++ with_defaults defaults r ∷ []) rest all (again ∙ same))
   where
-    again : skeletons ((done ++ filled defaults r ∷ []) ++ rest) ≡ skeletons (done ++ r ∷ rest)
+    again : skeletons ((done ++ with_defaults defaults r ∷ []) ++ rest) ≡ skeletons (done ++ r ∷ rest)
     again =
-        ap skeletons (append_assoc done (filled defaults r ∷ []) rest) ∙ map_both done (filled defaults r ∷ rest)
+        ap skeletons (append_assoc done (with_defaults defaults r ∷ []) rest) ∙ map_both done (with_defaults defaults r ∷ rest)
         ∙ ap (λ k. skeletons done ++ k ∷ skeletons rest) (filled_skeleton defaults r) ∙ sym (map_both done (r ∷ rest))
 
 -- ---- a whole manifest

@@ -3,7 +3,6 @@ use Rattle.std.proofs.Common.{◌≡◌, ◌⊎◌, inl, inr, ℕ, Bool, true, f
 use Rattle.std.specs.Prelude.{filter, is_none}
 use Rattle.std.specs.List.{AllByRecursion}
 use Rattle.std.specs.Str.{bytes_eq}
-use Rattle.std.proofs.lemmas.Slice.Eq.{bytes_eq-Decides}
 use Rattle.rh_base.specs.declared.fault.Refusal.{Refusal}
 use Rattle.pp_syntax.specs.declared.tree.Attr.{Attr}
 use Rattle.pp_value.specs.declared.value.Ref.{Ref}
@@ -17,44 +16,13 @@ use Rattle.catalog_semantics.specs.Attributes.{is_one_of, is_metaparameter, refe
 use Rattle.catalog_semantics.specs.Attributes.{as_attribute, attribute_of, attributes_behind, names_of, AreClean, AreDistinct, AreFit}
 use Rattle.catalog_semantics.specs.Frames.{Each, AreSoundAttributes}
 use Rattle.catalog_semantics.proofs.Clean.{all_clean}
+use Rattle.std.proofs.lemmas.Bool.{or_parts, or_right, or_left, or_from}
+use Rattle.pp_value.proofs.Distinct.{by_test, same_key, key_itself}
 
 -- ---- names
 
--- what holds in both cases of a test holds
-by_test : (t : Bool) (P : Type 0) → (t ≡ true → P) → (t ≡ false → P) → P
-by_test true P f g = f refl
-by_test false P f g = g refl
-
--- names that are told to be equal are
-same_name : (a b : List ℕ) → bytes_eq a b ≡ true → a ≡ b
-same_name a b h = (bytes_eq-Decides a b).0 h
-
--- a name is told to be equal to itself
-itself : (a : List ℕ) → bytes_eq a a ≡ true
-itself a = (bytes_eq-Decides a a).1 refl
-
--- a disjunction holds where its first side does
-or_left : (a b : Bool) → a ≡ true → (a || b) ≡ true
-or_left true b h = refl
-or_left false b h = cc
-
--- and where its second does
-or_right : (a b : Bool) → b ≡ true → (a || b) ≡ true
-or_right true b h = refl
-or_right false b h = h
-
--- where a disjunction is false both sides are
-or_none : (a b : Bool) → (a || b) ≡ false → (a ≡ false) × (b ≡ false)
-or_none true b h = cc
-or_none false b h = (refl, h)
-
--- and where both sides are false it is
-neither : (a b : Bool) → a ≡ false → b ≡ false → (a || b) ≡ false
-neither true b h k = h
-neither false b h k = k
-
 -- a value isn't both there and missing
-some_none : (x : Value) (o : Option Value) → o ≡ Some x → o ≡ None → ⊥
+pub some_none : (x : Value) (o : Option Value) → o ≡ Some x → o ≡ None → ⊥
 some_none x o h k = let clash : ◌≡◌ {A = Option Value} (Some x) None = sym h ∙ k in cc
 
 -- the value of the first name is that of the first pair
@@ -69,20 +37,20 @@ at_later key p pairs h = ap (λ t. cond t (Some p.1) (value_at key pairs)) h
 fewer : (big small : List (List ℕ)) (xs : List Pair) → ((name : List ℕ) → is_one_of big name ≡ false → is_one_of small name ≡ false) → AreDistinct big xs → AreDistinct small xs
 fewer big small [] f h = tt
 fewer big small (p ∷ xs) f h =
-    (f p.0 h.0, fewer (p.0 ∷ big) (p.0 ∷ small) xs (λ name k. let parts = or_none (bytes_eq name p.0) (is_one_of big name) k in neither (bytes_eq name p.0) (is_one_of small name) parts.0 (f name parts.1)) h.1)
+    (f p.0 h.0, fewer (p.0 ∷ big) (p.0 ∷ small) xs (λ name k. let parts = or_parts (bytes_eq name p.0) (is_one_of big name) k in or_from (bytes_eq name p.0) (is_one_of small name) parts.0 (f name parts.1)) h.1)
 
 -- a name that stands before has no value
 absent : (before : List (List ℕ)) (xs : List Pair) (name : List ℕ) → AreDistinct before xs → is_one_of before name ≡ true → value_at name xs ≡ None
 absent before [] name h k = refl
 absent before (p ∷ xs) name h k =
     by_test (bytes_eq p.0 name) (value_at name (p ∷ xs) ≡ None)
-    (λ e. let clash : true ≡ false = sym k ∙ (ap (is_one_of before) (sym (same_name p.0 name e)) ∙ h.0) in cc)
+    (λ e. let clash : true ≡ false = sym k ∙ (ap (is_one_of before) (sym (same_key p.0 name e)) ∙ h.0) in cc)
     (λ e. at_later name p xs e ∙ absent (p.0 ∷ before) xs name h.1 (or_right (bytes_eq name p.0) (is_one_of before name) k))
 
 -- attributes that are distinct behind some names have distinct keys
 pub distinct_keys : (before : List (List ℕ)) (xs : List Pair) → AreDistinct before xs → HasDistinctKeys xs
 distinct_keys before [] h = tt
-distinct_keys before (p ∷ xs) h = (absent (p.0 ∷ before) xs p.0 h.1 (or_left (bytes_eq p.0 p.0) (is_one_of before p.0) (itself p.0)), distinct_keys (p.0 ∷ before) xs h.1)
+distinct_keys before (p ∷ xs) h = (absent (p.0 ∷ before) xs p.0 h.1 (or_left (bytes_eq p.0 p.0) (is_one_of before p.0) (key_itself p.0)), distinct_keys (p.0 ∷ before) xs h.1)
 
 -- ---- what is evaluated
 
@@ -97,7 +65,7 @@ step_each Q (Ok x) f h = h x
 step_each Q (Err e) f h = tt
 
 -- what is given is both, where it is each
-both_each : {A : Type 0} (P Q : A → Type 0) (r : Result A Refusal) → Each P r → Each Q r → Each (λ x. P x × Q x) r
+pub both_each : {A : Type 0} (P Q : A → Type 0) (r : Result A Refusal) → Each P r → Each Q r → Each (λ x. P x × Q x) r
 both_each P Q (Ok x) h k = (h, k)
 both_each P Q (Err e) h k = tt
 
@@ -137,7 +105,7 @@ first_next before a false e = (e, refl)
 -- an attribute of a new name goes before distinct ones
 behind_this : (before : List (List ℕ)) (a : Attr) (given more : List Pair) → is_one_of before a.name ≡ false → IsThis a given → AreDistinct (a.name ∷ before) more → AreDistinct before (given ++ more)
 behind_this before a given more new (inl none) h =
-    subst (λ (g : List Pair). AreDistinct before (g ++ more)) (sym none) (fewer (a.name ∷ before) before more (λ name k. (or_none (bytes_eq name a.name) (is_one_of before name) k).1) h)
+    subst (λ (g : List Pair). AreDistinct before (g ++ more)) (sym none) (fewer (a.name ∷ before) before more (λ name k. (or_parts (bytes_eq name a.name) (is_one_of before name) k).1) h)
 behind_this before a given more new (inr one) h = subst (λ (g : List Pair). AreDistinct before (g ++ more)) (sym one.1) (new, h)
 
 -- attributes that are evaluated behind some names are distinct
@@ -191,7 +159,7 @@ more_names name names (p ∷ xs) h = (or_right (bytes_eq p.0 name) (is_one_of na
 -- each attribute's name stands among the names
 own_names : (xs : List Pair) → AllByRecursion (λ p. is_one_of (names_of xs) p.0 ≡ true) xs
 own_names [] = tt
-own_names (p ∷ xs) = (or_left (bytes_eq p.0 p.0) (is_one_of (names_of xs) p.0) (itself p.0), more_names p.0 (names_of xs) xs (own_names xs))
+own_names (p ∷ xs) = (or_left (bytes_eq p.0 p.0) (is_one_of (names_of xs) p.0) (key_itself p.0), more_names p.0 (names_of xs) xs (own_names xs))
 
 -- attributes that are distinct behind others go behind them
 pub distinct_behind : (xs ys : List Pair) → HasDistinctKeys xs → AreDistinct (names_of xs) ys → HasDistinctKeys (xs ++ ys)
@@ -230,7 +198,7 @@ none_lacked key left (p ∷ right) h =
     let rest = none_lacked key left right h in
     kept_or_not left p right (λ xs. value_at key xs ≡ None)
     (λ new. by_test (bytes_eq p.0 key) (value_at key (p ∷ filter (lacks left) right) ≡ None)
-    (λ e. let clash : true ≡ false = sym new ∙ (ap (λ k. is_none (value_at k left)) (same_name p.0 key e) ∙ h) in cc)
+    (λ e. let clash : true ≡ false = sym new ∙ (ap (λ k. is_none (value_at k left)) (same_key p.0 key e) ∙ h) in cc)
     (λ e. at_later key p (filter (lacks left) right) e ∙ rest))
     rest
 
@@ -247,7 +215,7 @@ some_all p pairs (q ∷ xs) h = (some_first q.0 p pairs h.0, some_all p pairs xs
 -- each name of a list has a value in it
 all_stand : (pairs : List Pair) → AllByRecursion (λ p. is_none (value_at p.0 pairs) ≡ false) pairs
 all_stand [] = tt
-all_stand (p ∷ pairs) = (ap is_none (at_first p.0 p pairs (itself p.0)), some_all p pairs pairs (all_stand pairs))
+all_stand (p ∷ pairs) = (ap is_none (at_first p.0 p pairs (key_itself p.0)), some_all p pairs pairs (all_stand pairs))
 
 -- no name of the attributes is among the defaults that are kept
 apart_lacked : (left right xs : List Pair) → AllByRecursion (λ p. is_none (value_at p.0 left) ≡ false) xs → AllByRecursion (λ p. value_at p.0 (filter (lacks left) right) ≡ None) xs

@@ -2,7 +2,7 @@
 use Rattle.std.proofs.Common.{◌≡◌, ℕ, zero, suc, ◌+◌, ◌<◌, ◌≤◌, Bool, true, false, cond, not, ◌&&◌, ◌||◌, List, [], ◌∷◌, ◌++◌, length, ◌⊎◌}
 use Rattle.std.proofs.Common.{inl, inr, ⊎_elim, Option, Some, None, Result, Ok, Err, refl, sym, ap, subst, ◌∙◌, length-append, arith}
 use Rattle.std.proofs.lemmas.List.{length-map}
-use Rattle.std.proofs.lemmas.Bool.{eqb-true, eqb-false, ne_eqb, ltb-true}
+use Rattle.std.proofs.lemmas.Bool.{eqb-true, eqb-false, ne_eqb, ltb-true, or_parts, or_cases}
 use Rattle.std.proofs.lemmas.Map.Keys.{IsDistinct-head, IsDistinct-tail, IsDistinct-cons}
 use Rattle.std.proofs.lemmas.Map.Steps.{length-le_from_distinct_below}
 use Rattle.std.proofs.Math.Dec.{eqb}
@@ -21,15 +21,16 @@ use Rattle.catalog_semantics.specs.Sites.{Definition, Site, definition_of}
 use Rattle.catalog_semantics.specs.States.{State, Effect, is_new, has_room, within_size, as_added, added, declared_bound}
 use Rattle.catalog_semantics.specs.Effects.{effect_of}
 use Rattle.catalog_semantics.specs.Catalogs.{main_code, main_ended, first_state, made_real, realized, has_run, is_defined_sort, is_due}
-use Rattle.catalog_semantics.specs.Catalogs.{next_due, marked, type_runs, resource_runs, run_and_go_on, rounds, state_after, round_limit}
+use Rattle.catalog_semantics.specs.Catalogs.{next_due, counted_as_run, type_runs, resource_runs, run_and_go_on, rounds, state_after, round_limit}
 use Rattle.catalog_semantics.specs.Catalogs.{IsSettled}
 use Rattle.pp_eval.specs.Extending.{Begins}
 use Rattle.catalog_semantics.specs.Frames.{Each, Extends, Fits, IsContainerAt}
-use Rattle.catalog_semantics.proofs.Keeping.{Keeps, IsFrame, step_each, then_each, both_each, bound_each, body_keeps, statement_keeps}
+use Rattle.catalog_semantics.proofs.Keeping.{Keeps, IsFrame, step_each, then_each, bound_each, body_keeps, statement_keeps}
 use Rattle.pp_eval.specs.Growing.{begins_same}
 use Rattle.catalog_semantics.proofs.Extending.{extending}
 use Rattle.catalog_semantics.proofs.Settled.{realized_again}
 use Rattle.catalog_semantics.proofs.Whole.{IsMainFrame, IsWholeFrame, Same, ends_same, mapped, main_keeps, type_keeps, due_contains}
+use Rattle.catalog_semantics.proofs.DistinctNames.{both_each}
 
 -- ---- how many resources are declared
 
@@ -164,8 +165,8 @@ Runs place s t = (t.ran ≡ s.ran ++ place ∷ []) × Begins s.resources t.resou
 runs_one : (site : Site) (place : ℕ) (r : Resource) (d : Option Definition) (s : State) → IsContainerAt place s.resources → Each (Runs place s) (type_runs site place r d s)
 runs_one site place r None s at = (refl, begins_same s.resources)
 runs_one site place r (Some d) s at =
-    mapped (Extends (marked place s)) (Runs place s) (type_runs site place r (Some d) s) (λ t e. (e.ran, e.resources))
-    (body_keeps Extends extending (effect_of site) (statement_keeps Extends extending site) d place r defined_scope (marked place s) at)
+    mapped (Extends (counted_as_run place s)) (Runs place s) (type_runs site place r (Some d) s) (λ t e. (e.ran, e.resources))
+    (body_keeps Extends extending (effect_of site) (statement_keeps Extends extending site) d place r defined_scope (counted_as_run place s) at)
 
 -- ---- how often
 
@@ -184,30 +185,20 @@ all_more : (x y : ℕ) (xs : List ℕ) → AllByRecursion (λ z. eqb x z ≡ fal
 all_more x y [] h k = (k, tt)
 all_more x y (z ∷ xs) h k = (h.0, all_more x y xs h.1 k)
 
--- where a disjunction is false both sides are
-or_false : (a b : Bool) → (a || b) ≡ false → (a ≡ false) × (b ≡ false)
-or_false true b h = cc
-or_false false b h = (refl, h)
-
 -- distinct numbers with a new one are distinct
 distinct_more : (xs : List ℕ) (y : ℕ) → IsDistinct eqb xs → list_any (eqb y) xs ≡ false → IsDistinct eqb (xs ++ y ∷ [])
 distinct_more [] y h k = IsDistinct-cons eqb y [] tt h
-distinct_more (x ∷ xs) y h k = let both = or_false (eqb y x) (list_any (eqb y) xs) k in
+distinct_more (x ∷ xs) y h k = let both = or_parts (eqb y x) (list_any (eqb y) xs) k in
     IsDistinct-cons eqb x (xs ++ y ∷ []) (all_more x y xs (IsDistinct-head eqb x xs h) (other x y both.0))
     (distinct_more xs y (IsDistinct-tail eqb x xs h) both.1)
 
--- where a disjunction holds one side does
-or_true : (a b : Bool) → (a || b) ≡ true → (a ≡ true) ⊎ (b ≡ true)
-or_true true b h = inl refl
-or_true false b h = inr h
-
 -- what is among numbers with one more is among them, or is that
 in_more : (q y : ℕ) (xs : List ℕ) → list_any (eqb q) (xs ++ y ∷ []) ≡ true → (list_any (eqb q) xs ≡ true) ⊎ (q ≡ y)
-in_more q y [] h = ⊎_elim (λ a. inr (eqb-true q y a)) (λ b. inl b) (or_true (eqb q y) false h)
+in_more q y [] h = ⊎_elim (λ a. inr (eqb-true q y a)) (λ b. inl b) (or_cases (eqb q y) false h)
 in_more q y (x ∷ xs) h =
     ⊎_elim (λ a. inl (ap (λ w. w || list_any (eqb q) xs) a))
     (λ b. ⊎_elim (λ c. inl (either_true (eqb q x) c)) (λ c. inr c) (in_more q y xs b))
-    (or_true (eqb q x) (list_any (eqb q) (xs ++ y ∷ [])) h)
+    (or_cases (eqb q x) (list_any (eqb q) (xs ++ y ∷ [])) h)
   where
     either_true : (a : Bool) {b : Bool} → b ≡ true → (a || b) ≡ true
     either_true true h = refl

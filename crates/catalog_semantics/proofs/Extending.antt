@@ -4,15 +4,15 @@ use Rattle.pp_syntax.specs.declared.tree.Stmt.{Stmt}
 use Rattle.pp_value.specs.declared.value.Value.{Value}
 use Rattle.pp_eval.specs.declared.scope.Scope.{Scope}
 use Rattle.pp_eval.specs.Scoping.{Scoped, entered, with_binding}
-use Rattle.pp_eval.specs.Extending.{Extends as ScopesExtend}
+use Rattle.pp_eval.specs.Extending.{Begins, Extends as ScopesExtend}
 use Rattle.pp_eval.specs.Growing.{begins_same, begins_joined, begins_more, same_extends as scopes_same, extends_joined as scopes_joined, bound_extends, body_extends}
 use Rattle.catalog_semantics.specs.declared.catalog.Resource.{Resource}
 use Rattle.catalog_semantics.specs.declared.state.Collector.{Collector}
 use Rattle.catalog_semantics.specs.declared.state.Pending.{Pending}
 use Rattle.catalog_semantics.specs.declared.state.Tie.{Tie}
 use Rattle.catalog_semantics.specs.Sites.{Definition, Site}
-use Rattle.catalog_semantics.specs.States.{State, in_turn, with_scopes, bound, as_added, is_new, has_room, within_size}
-use Rattle.catalog_semantics.specs.States.{added, held, tied, collected, wanted}
+use Rattle.catalog_semantics.specs.States.{State, Holding, in_turn, with_scopes, bound, as_added, is_new, has_room, within_size}
+use Rattle.catalog_semantics.specs.States.{added, held, tied, collected, with_pending}
 use Rattle.catalog_semantics.specs.Declaring.{entering, opened, begun, ended}
 use Rattle.catalog_semantics.specs.Rooms.{Room}
 use Rattle.catalog_semantics.specs.Effects.{effect_at, effect_of}
@@ -21,22 +21,29 @@ use Rattle.catalog_semantics.proofs.Keeping.{Keeps, IsFrame, step_each, bound_ea
 
 -- ---- states
 
--- a state only adds nothing to itself
-extends_same : (s : State) → Extends s s
-extends_same s = record {
+-- A state only adds where its scopes do and its lists begin as they were.
+grows : (s : State) (scopes : Scoped) (resources : List Resource) (holdings : List Holding) (ties : List Tie) (collectors : List Collector) (pending : List Pending)
+    → ScopesExtend s.scopes scopes → Begins s.resources resources → Begins s.holdings holdings → Begins s.ties ties → Begins s.collectors collectors
+    → Begins s.pending pending
+    → Extends s (record s { scopes = scopes; resources = resources; holdings = holdings; ties = ties; collectors = collectors; pending = pending })
+grows s scopes resources holdings ties collectors pending extend more_resources more_holdings more_ties more_collectors more_pending = record {
   limits = refl;
   running = refl;
   main_has_ended = refl;
-  scopes = scopes_same s.scopes;
+  scopes = extend;
   defaults = refl;
   ran = refl;
-  resources =
-      begins_same s.resources;
-  holdings = begins_same s.holdings;
-  ties = begins_same s.ties;
-  collectors = begins_same s.collectors;
-  pending = begins_same s.pending;
+  resources = more_resources;
+  holdings = more_holdings;
+  ties = more_ties;
+  collectors = more_collectors;
+  pending = more_pending;
 }
+
+-- a state only adds nothing to itself
+extends_same : (s : State) → Extends s s
+extends_same s = grows s s.scopes s.resources s.holdings s.ties s.collectors s.pending
+    (scopes_same s.scopes) (begins_same s.resources) (begins_same s.holdings) (begins_same s.ties) (begins_same s.collectors) (begins_same s.pending)
 
 -- what only adds to what only adds only adds
 pub extends_joined : (s t u : State) → Extends s t → Extends t u → Extends s u
@@ -56,105 +63,35 @@ extends_joined s t u h k = record {
 
 -- bindings only add
 scopes_extend : (s : State) (scopes : Scoped) → ScopesExtend s.scopes scopes → Extends s (with_scopes scopes s)
-scopes_extend s scopes h = record {
-  limits = refl;
-  running = refl;
-  main_has_ended = refl;
-  scopes = h;
-  defaults = refl;
-  ran = refl;
-  resources =
-      begins_same s.resources;
-  holdings = begins_same s.holdings;
-  ties = begins_same s.ties;
-  collectors = begins_same s.collectors;
-  pending = begins_same s.pending;
-}
+scopes_extend s scopes h = grows s scopes s.resources s.holdings s.ties s.collectors s.pending
+    h (begins_same s.resources) (begins_same s.holdings) (begins_same s.ties) (begins_same s.collectors) (begins_same s.pending)
 
 -- so do more resources
 resources_extend : (s : State) (more : List Resource) → Extends s (record s { resources = s.resources ++ more })
-resources_extend s more = record {
-  limits = refl;
-  running = refl;
-  main_has_ended = refl;
-  scopes = scopes_same s.scopes;
-  defaults = refl;
-  ran = refl;
-  resources =
-      begins_more s.resources more;
-  holdings = begins_same s.holdings;
-  ties = begins_same s.ties;
-  collectors = begins_same s.collectors;
-  pending = begins_same s.pending;
-}
+resources_extend s more = grows s s.scopes (s.resources ++ more) s.holdings s.ties s.collectors s.pending
+    (scopes_same s.scopes) (begins_more s.resources more) (begins_same s.holdings) (begins_same s.ties) (begins_same s.collectors) (begins_same s.pending)
 
 -- so does a holding
 holds_extend : (outer class : ℕ) (s : State) → Extends s (held outer class s)
-holds_extend outer class s = record {
-  limits = refl;
-  running = refl;
-  main_has_ended = refl;
-  scopes = scopes_same s.scopes;
-  defaults = refl;
-  ran = refl;
-  resources =
-      begins_same s.resources;
-  holdings = begins_more s.holdings (record { outer = outer; class = class } ∷ []);
-  ties = begins_same s.ties;
-  collectors = begins_same s.collectors;
-  pending = begins_same s.pending;
-}
+holds_extend outer class s =
+    let more : List Holding = record { outer = outer; class = class } ∷ [] in
+    grows s s.scopes s.resources (s.holdings ++ more) s.ties s.collectors s.pending
+    (scopes_same s.scopes) (begins_same s.resources) (begins_more s.holdings more) (begins_same s.ties) (begins_same s.collectors) (begins_same s.pending)
 
 -- so do ties
 ties_extend : (ties : List Tie) (s : State) → Extends s (tied ties s)
-ties_extend ties s = record {
-  limits = refl;
-  running = refl;
-  main_has_ended = refl;
-  scopes = scopes_same s.scopes;
-  defaults = refl;
-  ran = refl;
-  resources =
-      begins_same s.resources;
-  holdings = begins_same s.holdings;
-  ties = begins_more s.ties ties;
-  collectors = begins_same s.collectors;
-  pending = begins_same s.pending;
-}
+ties_extend ties s = grows s s.scopes s.resources s.holdings (s.ties ++ ties) s.collectors s.pending
+    (scopes_same s.scopes) (begins_same s.resources) (begins_same s.holdings) (begins_more s.ties ties) (begins_same s.collectors) (begins_same s.pending)
 
 -- so does a collector
 collects_extend : (c : Collector) (s : State) → Extends s (collected c s)
-collects_extend c s = record {
-  limits = refl;
-  running = refl;
-  main_has_ended = refl;
-  scopes = scopes_same s.scopes;
-  defaults = refl;
-  ran = refl;
-  resources =
-      begins_same s.resources;
-  holdings = begins_same s.holdings;
-  ties = begins_same s.ties;
-  collectors = begins_more s.collectors (c ∷ []);
-  pending = begins_same s.pending;
-}
+collects_extend c s = grows s s.scopes s.resources s.holdings s.ties (s.collectors ++ c ∷ []) s.pending
+    (scopes_same s.scopes) (begins_same s.resources) (begins_same s.holdings) (begins_same s.ties) (begins_more s.collectors (c ∷ [])) (begins_same s.pending)
 
 -- so do references that are to be realized
-wants_extend : (more : List Pending) (s : State) → Extends s (wanted more s)
-wants_extend more s = record {
-  limits = refl;
-  running = refl;
-  main_has_ended = refl;
-  scopes = scopes_same s.scopes;
-  defaults = refl;
-  ran = refl;
-  resources =
-      begins_same s.resources;
-  holdings = begins_same s.holdings;
-  ties = begins_same s.ties;
-  collectors = begins_same s.collectors;
-  pending = begins_more s.pending more;
-}
+wants_extend : (more : List Pending) (s : State) → Extends s (with_pending more s)
+wants_extend more s = grows s s.scopes s.resources s.holdings s.ties s.collectors (s.pending ++ more)
+    (scopes_same s.scopes) (begins_same s.resources) (begins_same s.holdings) (begins_same s.ties) (begins_same s.collectors) (begins_more s.pending more)
 
 -- binding a name only adds
 binds_extend : (at : ℕ) (name : List ℕ) (x : Value) → Keeps Extends (bound at name x)

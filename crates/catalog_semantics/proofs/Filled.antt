@@ -7,7 +7,7 @@ use Rattle.rh_base.specs.declared.fault.Refusal.{Refusal}
 use Rattle.pp_eval.specs.Evaluating.{◌>>=◌, refusal}
 use Rattle.catalog_semantics.specs.declared.catalog.Resource.{Resource}
 use Rattle.catalog_semantics.specs.declared.state.Default.{Default}
-use Rattle.catalog_semantics.specs.States.{State, filled, size_of_resources, attributes_limit}
+use Rattle.catalog_semantics.specs.States.{State, with_defaults, size_of_resources, attributes_limit}
 use Rattle.catalog_semantics.specs.Filling.{IsFirstTooLarge}
 use Rattle.catalog_semantics.specs.Catalogs.{filled_behind, main_ended}
 
@@ -22,23 +22,23 @@ same_list x y h = cc
 module _ (defaults : List Default) where
   -- some resources with their defaults, one that has them now, and the others
   abbrev here : List Resource → Resource → List Resource → List Resource
-  here done r resources = done ++ filled defaults r ∷ resources
+  here done r resources = done ++ with_defaults defaults r ∷ resources
 
   -- one more resource has its defaults
   abbrev next : List Resource → Resource → List Resource
-  next done r = done ++ filled defaults r ∷ []
+  next done r = done ++ with_defaults defaults r ∷ []
 
   -- ---- all
 
   -- these are the first ones, and the others with their defaults
   abbrev AllFilled : List Resource → List Resource → List Resource → Type 0
-  AllFilled done resources all = all ≡ done ++ map (filled defaults) resources
+  AllFilled done resources all = all ≡ done ++ map (with_defaults defaults) resources
 
   -- where there is room for one, and the others have their defaults, all have
   by_room : (done : List Resource) (r : Resource) (resources all : List Resource) (b : Bool) → (filled_behind defaults (next done r) resources ≡ Ok all → AllFilled (next done r) resources all)
       → (cond b (Err (refusal 32 r.at (codes "attributes"))) (Ok (here done r resources)) >>= λ _. filled_behind defaults (next done r) resources) ≡ Ok all → AllFilled done (r ∷ resources) all
   by_room done r resources all true f h = cc
-  by_room done r resources all false f h = f h ∙ append_assoc done (filled defaults r ∷ []) (map (filled defaults) resources)
+  by_room done r resources all false f h = f h ∙ append_assoc done (with_defaults defaults r ∷ []) (map (with_defaults defaults) resources)
 
   -- the resources that are found all have their defaults
   all_filled : (done resources all : List Resource) → filled_behind defaults done resources ≡ Ok all → AllFilled done resources all
@@ -53,9 +53,9 @@ module _ (defaults : List Default) where
     pub resource : Resource
     pub back : List Resource
     pub whole : resources ≡ front ++ resource ∷ back
-    pub large : attributes_limit < size_of_resources (done ++ (map (filled defaults) (front ++ resource ∷ []) ++ back))
+    pub large : attributes_limit < size_of_resources (done ++ (map (with_defaults defaults) (front ++ resource ∷ []) ++ back))
     pub first : (before : List Resource) (r : Resource) (behind : List Resource) → front ≡ before ++ r ∷ behind
-        → size_of_resources (done ++ (map (filled defaults) (before ++ r ∷ []) ++ (behind ++ resource ∷ back))) ≤ attributes_limit
+        → size_of_resources (done ++ (map (with_defaults defaults) (before ++ r ∷ []) ++ (behind ++ resource ∷ back))) ≤ attributes_limit
     pub is : e ≡ refusal 32 resource.at (codes "attributes")
 
   -- equal lists begin alike
@@ -70,22 +70,22 @@ module _ (defaults : List Default) where
     resource = f.resource;
     back = f.back;
     whole = ap (λ (rs : List Resource). r ∷ rs) f.whole;
-    large = subst (λ (rs : List Resource). attributes_limit < size_of_resources rs) (append_assoc done (filled defaults r ∷ []) (map (filled defaults) (f.front ++ f.resource ∷ []) ++ f.back)) f.large;
+    large = subst (λ (rs : List Resource). attributes_limit < size_of_resources rs) (append_assoc done (with_defaults defaults r ∷ []) (map (with_defaults defaults) (f.front ++ f.resource ∷ []) ++ f.back)) f.large;
     first = by;
     is = f.is;
   }
     where
       by : (before : List Resource) (q : Resource) (behind : List Resource) → (r ∷ f.front) ≡ before ++ q ∷ behind
-          → size_of_resources (done ++ (map (filled defaults) (before ++ q ∷ []) ++ (behind ++ f.resource ∷ f.back))) ≤ attributes_limit
+          → size_of_resources (done ++ (map (with_defaults defaults) (before ++ q ∷ []) ++ (behind ++ f.resource ∷ f.back))) ≤ attributes_limit
       by [] q behind h =
           let same = same_head r q f.front behind h in
           subst (λ (n : ℕ). n ≤ attributes_limit)
-          (λ i. size_of_resources (done ++ filled defaults (same.0 i) ∷ ((f.whole ∙ ap (λ (rs : List Resource). rs ++ f.resource ∷ f.back) same.1) i))) fits
+          (λ i. size_of_resources (done ++ with_defaults defaults (same.0 i) ∷ ((f.whole ∙ ap (λ (rs : List Resource). rs ++ f.resource ∷ f.back) same.1) i))) fits
       by (b ∷ before) q behind h =
           let same = same_head r b f.front (before ++ q ∷ behind) h in
           subst (λ (rs : List Resource). size_of_resources rs ≤ attributes_limit)
-          (append_assoc done (filled defaults r ∷ []) (map (filled defaults) (before ++ q ∷ []) ++ (behind ++ f.resource ∷ f.back))
-          ∙ ap (λ (x : Resource). done ++ filled defaults x ∷ (map (filled defaults) (before ++ q ∷ []) ++ (behind ++ f.resource ∷ f.back))) same.0)
+          (append_assoc done (with_defaults defaults r ∷ []) (map (with_defaults defaults) (before ++ q ∷ []) ++ (behind ++ f.resource ∷ f.back))
+          ∙ ap (λ (x : Resource). done ++ with_defaults defaults x ∷ (map (with_defaults defaults) (before ++ q ∷ []) ++ (behind ++ f.resource ∷ f.back))) same.0)
           (f.first before q behind same.1)
 
   -- equal results have equal refusals
@@ -120,11 +120,11 @@ module _ (defaults : List Default) where
       by_size done r resources e (nat_lt attributes_limit (size_of_resources (here done r resources))) refl (first_large (next done r) resources e) h
 
 -- where the list is found, or refused, so is the state
-pub ends_filled : (s t : State) → main_ended s ≡ Ok t → t ≡ record s { main_has_ended = true; resources = map (filled s.defaults) s.resources }
+pub ends_filled : (s t : State) → main_ended s ≡ Ok t → t ≡ record s { main_has_ended = true; resources = map (with_defaults s.defaults) s.resources }
 ends_filled s t h = by (filled_behind s.defaults [] s.resources) refl h
   where
     by : (x : Result (List Resource) Refusal) → filled_behind s.defaults [] s.resources ≡ x → (x >>= λ all. Ok (record s { main_has_ended = true; resources = all })) ≡ Ok t
-        → t ≡ record s { main_has_ended = true; resources = map (filled s.defaults) s.resources }
+        → t ≡ record s { main_has_ended = true; resources = map (with_defaults s.defaults) s.resources }
     by (Ok all) is k = same_state (record s { main_has_ended = true; resources = all }) t k ∙ ap (λ (rs : List Resource). record s { main_has_ended = true; resources = rs }) (all_filled s.defaults [] s.resources all is)
     by (Err e) is k = cc
 

@@ -34,7 +34,7 @@ use Rattle.catalog_semantics.specs.declared.state.Pending.{Pending}
 use Rattle.catalog_semantics.specs.declared.state.Side.{Side}
 use Rattle.catalog_semantics.specs.declared.state.Tie.{Tie}
 use Rattle.catalog_semantics.specs.Sites.{Parameter, Definition, Site, is_built_in}
-use Rattle.catalog_semantics.specs.States.{State, Default, Effect, in_turn, with_scopes, bound, is_declared, place_of, defaults_of, lacks, is_class, filled, is_new, has_room, within_size, as_added, added, held, tied, collected, wanted}
+use Rattle.catalog_semantics.specs.States.{State, Default, Effect, in_turn, with_scopes, bound, is_declared, place_of, defaults_of, lacks, is_class, with_defaults, is_new, has_room, within_size, as_added, added, held, tied, collected, with_pending}
 use Rattle.catalog_semantics.specs.Attributes.{titles_at, attributes_at, references_in}
 use Rattle.catalog_semantics.specs.Declaring.{Bodies, within, body_in, one_more_body, given_or_else, fitting, parameter_bound, all_known, entering, opened}
 use Rattle.catalog_semantics.specs.Declaring.{begun, ended, body_begins, body_runs, class_ref, class_resource, class_named, class_runs, no_circle}
@@ -50,7 +50,7 @@ use Rattle.catalog_semantics.specs.Effects.{chained, called, Inner, Arms, InnerA
 use Rattle.catalog_semantics.specs.Frames.{Each, IsSound, AreSoundAttributes, IsContainerAt}
 use Rattle.catalog_semantics.specs.Catalogs.{is_plain_sort}
 use Rattle.catalog_semantics.specs.declared.catalog.Sort.TheVariants as sort
-use Rattle.catalog_semantics.proofs.DistinctNames.{all_sound}
+use Rattle.catalog_semantics.proofs.DistinctNames.{all_sound, both_each}
 use Rattle.catalog_semantics.proofs.Rolled.{in_arm, in_case_arm, layer_of, rolled, rolled_arm, rolled_case_arm}
 
 -- each effect leads to a state that stands in this relation to the one before
@@ -67,7 +67,7 @@ pub record IsFrame (R : State → State → Type 0) : Type 0 where
   pub holds : (name : List ℕ) (outer class : ℕ) (s : State) → s.running ≡ Some outer → place_of (class_ref name) s.resources ≡ Some class → R s (held outer class s)
   pub ties : (ties : List Tie) (s : State) → R s (tied ties s)
   pub collects : (c : Collector) (s : State) → R s (collected c s)
-  pub wants : (more : List Pending) (s : State) → R s (wanted more s)
+  pub wants : (more : List Pending) (s : State) → R s (with_pending more s)
 
 -- a last step that gives what is so makes a whole that does
 pub step_each : {A B : Type 0} (Q : B → Type 0) (r : Result A Refusal) (f : A → Result B Refusal) → ((x : A) → Each Q (f x))
@@ -94,11 +94,6 @@ bound_each P at name x s h = by_test (is_none (value_at name (bindings_now s.sco
     by_test true = h
     by_test false = tt
 
--- what is given is both, where it is each
-pub both_each : {A : Type 0} (P Q : A → Type 0) (x : Result A Refusal) → Each P x → Each Q x → Each (λ t. P t × Q t) x
-both_each P Q (Ok t) h k = (h, k)
-both_each P Q (Err e) h k = tt
-
 -- ---- what is added stands last
 
 -- what goes last stands at the number of those before it
@@ -107,7 +102,7 @@ got_last [] r = refl
 got_last (q ∷ front) r = got_last front r
 
 -- defaults change no sort
-sort_filled : (defaults : List Default) (r : Resource) → (filled defaults r).sort ≡ r.sort
+sort_filled : (defaults : List Default) (r : Resource) → (with_defaults defaults r).sort ≡ r.sort
 sort_filled defaults r = either (is_class r)
   where
     either : (b : Bool) → (cond b r (record r { attrs = r.attrs ++ filter (lacks r.attrs) (defaults_of r.id.kind defaults) })).sort ≡ r.sort
@@ -118,7 +113,7 @@ sort_filled defaults r = either (is_class r)
 sort_added : (s : State) (r : Resource) → (as_added s r).sort ≡ r.sort
 sort_added s r = either s.main_has_ended
   where
-    either : (b : Bool) → (cond b (filled s.defaults r) r).sort ≡ r.sort
+    either : (b : Bool) → (cond b (with_defaults s.defaults r) r).sort ≡ r.sort
     either true = sort_filled s.defaults r
     either false = refl
 

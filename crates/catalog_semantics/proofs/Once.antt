@@ -7,7 +7,7 @@ use Rattle.pp_value.specs.declared.value.Ref.{Ref}
 use Rattle.pp_eval.specs.Evaluating.{◌>>=◌}
 use Rattle.catalog_semantics.specs.declared.catalog.Resource.{Resource}
 use Rattle.catalog_semantics.specs.Sites.{Site}
-use Rattle.catalog_semantics.specs.States.{State, Default, references_of, stands_in, is_declared, is_class, filled, as_added}
+use Rattle.catalog_semantics.specs.States.{State, Default, references_of, stands_in, is_declared, is_class, with_defaults, as_added}
 use Rattle.catalog_semantics.specs.States.{has_room, within_size, added}
 use Rattle.catalog_semantics.specs.Effects.{effect_of}
 use Rattle.catalog_semantics.specs.Frames.{Each, AreNewBehind, StandOnce}
@@ -35,19 +35,19 @@ either_id true x y ref h k = h
 either_id false x y ref h k = k
 
 -- defaults change no reference
-pub filled_id : (defaults : List Default) (r : Resource) → (filled defaults r).id ≡ r.id
+pub filled_id : (defaults : List Default) (r : Resource) → (with_defaults defaults r).id ≡ r.id
 filled_id defaults r = either_id (is_class r) r _ r.id refl refl
 
 -- nor does adding
 added_id : (s : State) (r : Resource) → (as_added s r).id ≡ r.id
-added_id s r = either_id s.main_has_ended (filled s.defaults r) r r.id (filled_id s.defaults r) refl
+added_id s r = either_id s.main_has_ended (with_defaults s.defaults r) r r.id (filled_id s.defaults r) refl
 
 -- where each reference stands once in the one, it does in the other
 abbrev pub StandStill : State → State → Type 0
 StandStill s t = StandOnce (references_of s.resources) → StandOnce (references_of t.resources)
 
 -- one more resource is one more reference
-refs_more : (resources : List Resource) (r : Resource) → references_of (resources ++ r ∷ []) ≡ references_of resources ++ r.id ∷ []
+pub refs_more : (resources : List Resource) (r : Resource) → references_of (resources ++ r ∷ []) ≡ references_of resources ++ r.id ∷ []
 refs_more [] r = refl
 refs_more (q ∷ resources) r = ap (λ (w : List Ref). q.id ∷ w) (refs_more resources r)
 

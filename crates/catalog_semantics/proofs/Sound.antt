@@ -13,7 +13,7 @@ use Rattle.pp_eval.specs.Scoping.{pairs_in}
 use Rattle.pp_data.specs.declared.data.Level.{Level}
 use Rattle.catalog_semantics.specs.declared.catalog.Resource.{Resource}
 use Rattle.catalog_semantics.specs.Sites.{site_of}
-use Rattle.catalog_semantics.specs.States.{State, Default, defaults_of, lacks, is_class, filled, as_added, is_new, has_room}
+use Rattle.catalog_semantics.specs.States.{State, Default, defaults_of, lacks, is_class, with_defaults, as_added, is_new, has_room}
 use Rattle.catalog_semantics.specs.States.{within_size, added}
 use Rattle.catalog_semantics.specs.Attributes.{names_of, AreClean, AreDistinct}
 use Rattle.catalog_semantics.proofs.DistinctNames.{distinct_behind, distinct_filled}
@@ -25,6 +25,7 @@ use Rattle.catalog_semantics.specs.Frames.{Each, IsSound, AreSound}
 use Rattle.catalog_semantics.proofs.Keeping.{Keeps, step_each, then_each, bound_each}
 use Rattle.catalog_semantics.proofs.Clean.{both_clean}
 use Rattle.catalog_semantics.proofs.Whole.{IsWholeFrame, whole_keeps, few_is}
+use Rattle.rh_base.proofs.Lists.{all_last}
 
 -- the defaults are clean, and no name stands twice among those of a type
 pub record SoundDefaults (defaults : List Default) : Type 0 where
@@ -39,11 +40,6 @@ pub record SoundState (s : State) : Type 0 where
 -- where the one is sound, so is the other
 abbrev StaySound : State → State → Type 0
 StaySound s t = SoundState s → SoundState t
-
--- what holds of some and of one more holds of all
-each_more : {A : Type 0} (P : A → Type 0) (xs : List A) (y : A) → AllByRecursion P xs → P y → AllByRecursion P (xs ++ y ∷ [])
-each_more P [] y h k = (k, tt)
-each_more P (x ∷ xs) y h k = (h.0, each_more P xs y h.1 k)
 
 -- one of two lists of clean attributes is clean
 if_clean : (b : Bool) (xs ys : List Pair) → AreClean xs → AreClean ys → AreClean (cond b xs ys)
@@ -70,7 +66,7 @@ if_sound true x y h k = h
 if_sound false x y h k = k
 
 -- a resource with its defaults is sound
-filled_sound : (defaults : List Default) (r : Resource) → SoundDefaults defaults → IsSound r → IsSound (filled defaults r)
+filled_sound : (defaults : List Default) (r : Resource) → SoundDefaults defaults → IsSound r → IsSound (with_defaults defaults r)
 filled_sound defaults r d h =
     if_sound (is_class r) r _ h (
       (
@@ -113,8 +109,8 @@ adds_sound : (r : Resource) → IsSound r → Keeps StaySound (added r)
 adds_sound r sound s = step_each (StaySound s) (is_new r s) _ (λ new. step_each (StaySound s) (has_room r s) _ (λ room.
     step_each (StaySound s) (within_size r.at (s.resources ++ as_added s r ∷ [])) _ (λ fits h. record {
       resources =
-          each_more IsSound s.resources (as_added s r) h.resources
-          (if_sound s.main_has_ended (filled s.defaults r) r (filled_sound s.defaults r h.defaults sound) sound);
+          all_last IsSound s.resources (as_added s r) h.resources
+          (if_sound s.main_has_ended (with_defaults s.defaults r) r (filled_sound s.defaults r h.defaults sound) sound);
       defaults = h.defaults;
     })))
 
@@ -123,9 +119,9 @@ fills_sound : (defaults : List Default) (done resources : List Resource) → Sou
     → AreSound done → AreSound resources → Each AreSound (filled_behind defaults done resources)
 fills_sound defaults done [] d h k = h
 fills_sound defaults done (r ∷ resources) d h k =
-    step_each AreSound (within_size r.at (done ++ filled defaults r ∷ resources)) _ (λ fits.
-    fills_sound defaults (done ++ filled defaults r ∷ []) resources d
-    (each_more IsSound done (filled defaults r) h (filled_sound defaults r d k.0)) k.1)
+    step_each AreSound (within_size r.at (done ++ with_defaults defaults r ∷ resources)) _ (λ fits.
+    fills_sound defaults (done ++ with_defaults defaults r ∷ []) resources d
+    (all_last IsSound done (with_defaults defaults r) h (filled_sound defaults r d k.0)) k.1)
 
 -- what is so under a condition is given under it
 under : {X : Type 0} (Q : X → Type 0) (A : Type 0) (x : Result X Refusal) → (A → Each Q x) → Each (λ t. A → Q t) x
@@ -159,7 +155,7 @@ whole_sound = record {
         λ kind attributes s fit h. record {
           resources = h.resources;
           defaults = record {
-            clean = each_more (λ (d : Default). AreClean d.attributes) s.defaults _ h.defaults.clean fit.0;
+            clean = all_last (λ (d : Default). AreClean d.attributes) s.defaults _ h.defaults.clean fit.0;
             named = named_more kind attributes s.defaults h.defaults.named fit.1;
           };
         };

@@ -17,13 +17,13 @@ use Rattle.pp_eval.specs.Scoping.{entered, node_scope_new, defined_scope, pairs_
 use Rattle.pp_data.specs.declared.data.Level.{Level}
 use Rattle.catalog_semantics.specs.declared.catalog.Resource.{Resource}
 use Rattle.catalog_semantics.specs.Sites.{Definition, Node, Site, site_of, definition_of, node_block}
-use Rattle.catalog_semantics.specs.States.{State, Default, Effect, in_turn, references_of, defaults_of, filled, within_size}
+use Rattle.catalog_semantics.specs.States.{State, Default, Effect, in_turn, references_of, defaults_of, with_defaults, within_size}
 use Rattle.catalog_semantics.specs.Attributes.{attributes_behind, names_of, AreFit}
 use Rattle.catalog_semantics.proofs.DistinctNames.{all_fit}
 use Rattle.catalog_semantics.specs.Declaring.{named_type}
 use Rattle.catalog_semantics.specs.Effects.{effect_of}
 use Rattle.catalog_semantics.specs.Catalogs.{with_default, default_given, filled_behind, item_effect, node_effect, main_ended}
-use Rattle.catalog_semantics.specs.Catalogs.{first_state, main_code, is_called_for, made_real, realized, next_due, marked, type_runs}
+use Rattle.catalog_semantics.specs.Catalogs.{first_state, main_code, is_called_for, made_real, realized, next_due, counted_as_run, type_runs}
 use Rattle.catalog_semantics.specs.Catalogs.{resource_runs, run_and_go_on, rounds, state_after, round_limit, all_there, few_enough, Catalog}
 use Rattle.catalog_semantics.specs.Catalogs.{catalog_in, catalog_from, catalog_of}
 use Rattle.catalog_semantics.specs.declared.catalog.Sort.{Sort}
@@ -47,7 +47,7 @@ pub record IsMainFrame (R : State → State → Type 0) : Type 0 where
 pub record IsWholeFrame (R : State → State → Type 0) : Type 0 where
   pub main : IsMainFrame R
   pub realizes : (s : State) → R s (realized s)
-  pub marks : (place : ℕ) (s : State) → R s (marked place s)
+  pub marks : (place : ℕ) (s : State) → R s (counted_as_run place s)
 
 module _ (R : State → State → Type 0) (whole : IsMainFrame R) (site : Site) where
   -- a default that is given keeps it
@@ -130,8 +130,8 @@ module _ (R : State → State → Type 0) (whole : IsWholeFrame R) (site : Site)
   pub type_keeps : (place : ℕ) (r : Resource) (d : Option Definition) (s : State) → IsContainerAt place s.resources → Each (R s) (type_runs site place r d s)
   type_keeps place r None s at = whole.marks place s
   type_keeps place r (Some d) s at =
-      begins_there s (marked place s) (whole.marks place s) _
-      (body_keeps R whole.main.frame (effect_of site) (statement_keeps R whole.main.frame site) d place r defined_scope (marked place s) at)
+      begins_there s (counted_as_run place s) (whole.marks place s) _
+      (body_keeps R whole.main.frame (effect_of site) (statement_keeps R whole.main.frame site) d place r defined_scope (counted_as_run place s) at)
 
   -- a run of what is due keeps it
   run_keeps : (go_on : Effect) → Keeps R go_on → (x : Option (ℕ × Resource)) (s : State) → ((y : ℕ × Resource) → x ≡ Some y → IsContainerAt y.0 s.resources) → Each (R s) (run_and_go_on site go_on x s)
@@ -165,16 +165,16 @@ Same s t = SameRefs s.resources t.resources × (t.ran ≡ s.ran) × (t.limits �
 fills_same : (defaults : List Default) (done resources : List Resource) → Each (SameRefs (done ++ resources)) (filled_behind defaults done resources)
 fills_same defaults done [] = ap references_of (sym (append-nil done))
 fills_same defaults done (r ∷ resources) =
-    step_each _ (within_size r.at (done ++ filled defaults r ∷ resources)) _ (λ fits.
-    behind (filled_behind defaults (done ++ filled defaults r ∷ []) resources) (fills_same defaults (done ++ filled defaults r ∷ []) resources))
+    step_each _ (within_size r.at (done ++ with_defaults defaults r ∷ resources)) _ (λ fits.
+    behind (filled_behind defaults (done ++ with_defaults defaults r ∷ []) resources) (fills_same defaults (done ++ with_defaults defaults r ∷ []) resources))
   where
-    same_refs : (done : List Resource) → references_of (done ++ filled defaults r ∷ resources) ≡ references_of (done ++ r ∷ resources)
+    same_refs : (done : List Resource) → references_of (done ++ with_defaults defaults r ∷ resources) ≡ references_of (done ++ r ∷ resources)
     same_refs [] = ap (λ (w : Ref). w ∷ references_of resources) (filled_id defaults r)
     same_refs (q ∷ done) = ap (λ (w : List Ref). q.id ∷ w) (same_refs done)
 
-    behind : (x : Result (List Resource) Refusal) → Each (SameRefs ((done ++ filled defaults r ∷ []) ++ resources)) x
+    behind : (x : Result (List Resource) Refusal) → Each (SameRefs ((done ++ with_defaults defaults r ∷ []) ++ resources)) x
         → Each (SameRefs (done ++ r ∷ resources)) x
-    behind (Ok all) h = h ∙ ap references_of (append_assoc done (filled defaults r ∷ []) resources) ∙ same_refs done
+    behind (Ok all) h = h ∙ ap references_of (append_assoc done (with_defaults defaults r ∷ []) resources) ∙ same_refs done
     behind (Err e) h = tt
 
 -- so does the end of the main code, and what has run, and the limits

@@ -1,7 +1,7 @@
 -- Which of two values counts, and where a reference stands.
 use Rattle.std.proofs.Common.{◌≡◌, ℕ, zero, suc, ◌<◌, Bool, true, false, cond, ◌&&◌, ◌||◌, List, [], ◌∷◌, ◌++◌}
 use Rattle.std.proofs.Common.{Option, Some, refl, sym, subst, append_assoc, slice_get, take, ⊎_elim, arith, filter}
-use Rattle.std.proofs.lemmas.Bool.{cases_lt}
+use Rattle.std.proofs.lemmas.Bool.{cases_lt, or_right, or_left}
 use Rattle.std.proofs.lemmas.List.{append-nil}
 use Rattle.std.proofs.lemmas.Slice.Eq.{bytes_eq-Decides}
 use Rattle.std.specs.Str.{bytes_eq}
@@ -9,7 +9,7 @@ use Rattle.pp_value.specs.declared.value.Ref.{Ref}
 use Rattle.pp_value.specs.declared.value.Value.{Value}
 use Rattle.pp_value.specs.Values.{Pair, value_at, same_ref}
 use Rattle.catalog_semantics.specs.declared.catalog.Resource.{Resource}
-use Rattle.catalog_semantics.specs.States.{Default, stands_in, defaults_of, lacks, is_class, filled}
+use Rattle.catalog_semantics.specs.States.{Default, stands_in, defaults_of, lacks, is_class, with_defaults}
 use Rattle.catalog_semantics.specs.Frames.{AreNewBehind, StandOnce}
 
 -- what is found first or further on is found, where it is found further on
@@ -25,7 +25,7 @@ stays_first name x (p ∷ pairs) more h =
 
 -- a resource's own attribute counts before a default
 pub attribute_wins : (defaults : List Default) (r : Resource) (name : List ℕ) (x : Value) → value_at name r.attrs ≡ Some x
-    → value_at name (filled defaults r).attrs ≡ Some x
+    → value_at name (with_defaults defaults r).attrs ≡ Some x
 attribute_wins defaults r name x h = either (is_class r)
   where
     more : List Pair
@@ -51,16 +51,6 @@ same_self r = both (bytes_eq r.kind r.kind) (bytes_eq r.title r.title) (text_sel
     text_self : (xs : List ℕ) → bytes_eq xs xs ≡ true
     text_self xs = (bytes_eq-Decides xs xs).1 refl
 
--- a disjunction holds where its first side does
-or_holds : (a b : Bool) → a ≡ true → (a || b) ≡ true
-or_holds true b h = refl
-or_holds false b h = cc
-
--- and where its second does
-or_behind : (a b : Bool) → b ≡ true → (a || b) ≡ true
-or_behind true b h = refl
-or_behind false b h = h
-
 -- references that are equal as found are equal
 is_same : (q r : Ref) → ◌≡◌ {A = Option Ref} (Some q) (Some r) → q ≡ r
 is_same q r h = cc
@@ -70,8 +60,8 @@ stands_at : (refs : List Ref) (i j : ℕ) (r : Ref) → i < j → slice_get refs
 stands_at refs i zero r h is = absurd (omega arith)
 stands_at [] i (suc j) r h is = cc
 stands_at (q ∷ refs) zero (suc j) r h is =
-    or_holds (same_ref q r) _ (subst (λ (w : Ref). same_ref q w ≡ true) (is_same q r is) (same_self q))
-stands_at (q ∷ refs) (suc i) (suc j) r h is = or_behind (same_ref q r) _ (stands_at refs i j r (omega arith) is)
+    or_left (same_ref q r) _ (subst (λ (w : Ref). same_ref q w ≡ true) (is_same q r is) (same_self q))
+stands_at (q ∷ refs) (suc i) (suc j) r h is = or_right (same_ref q r) _ (stands_at refs i j r (omega arith) is)
 
 -- where references stand once, none stands among those before it
 new_there : (before refs : List Ref) (j : ℕ) (r : Ref) → AreNewBehind before refs → slice_get refs j ≡ Some r

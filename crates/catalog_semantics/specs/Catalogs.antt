@@ -28,7 +28,7 @@ use Rattle.catalog_semantics.specs.declared.state.Side.{Side}
 use Rattle.catalog_semantics.specs.declared.state.Side.TheVariants as side
 use Rattle.catalog_semantics.specs.declared.state.Tie.{Tie}
 use Rattle.catalog_semantics.specs.Sites.{Definition, Node, Site, site_of, definition_of, node_block}
-use Rattle.catalog_semantics.specs.States.{Holding, State, Effect, in_turn, is_declared, defaults_of, filled, within_size}
+use Rattle.catalog_semantics.specs.States.{Holding, State, Effect, in_turn, is_declared, defaults_of, with_defaults, within_size}
 use Rattle.catalog_semantics.specs.Attributes.{attributes_behind, names_of}
 use Rattle.catalog_semantics.specs.Declaring.{named_type, body_runs}
 use Rattle.catalog_semantics.specs.Collecting.{matches}
@@ -51,8 +51,8 @@ default_given site at kind attrs s = do
 abbrev pub filled_behind : List Default → List Resource → List Resource → Result (List Resource) Refusal
 filled_behind defaults done [] = Ok done
 filled_behind defaults done (r ∷ resources) = do
-  _ ← within_size r.at (done ++ filled defaults r ∷ resources)
-  filled_behind defaults (done ++ filled defaults r ∷ []) resources
+  _ ← within_size r.at (done ++ with_defaults defaults r ∷ resources)
+  filled_behind defaults (done ++ with_defaults defaults r ∷ []) resources
 
 -- ---- the main code
 
@@ -130,13 +130,13 @@ next_due s n [] = None
 next_due s n (r ∷ resources) = if is_due s n r then Some (n, r) else next_due s (n + 1) resources
 
 -- the body of the resource at a place counts as run
-abbrev pub marked : ℕ → State → State
-marked place s = record s { ran = s.ran ++ place ∷ [] }
+abbrev pub counted_as_run : ℕ → State → State
+counted_as_run place s = record s { ran = s.ran ++ place ∷ [] }
 
 -- the body of a defined resource
 abbrev pub type_runs : Site → ℕ → Resource → Option Definition → Effect
-type_runs site place r None s = Ok (marked place s)
-type_runs site place r (Some d) s = body_runs (effect_of site) d place r defined_scope (marked place s)
+type_runs site place r None s = Ok (counted_as_run place s)
+type_runs site place r (Some d) s = body_runs (effect_of site) d place r defined_scope (counted_as_run place s)
 
 abbrev pub resource_runs : Site → ℕ × Resource → Effect
 resource_runs site x s = type_runs site x.0 x.1 (definition_of x.1.id.kind site.defined_types) s

@@ -4,11 +4,11 @@ use Rattle.rh_base.specs.declared.fault.Refusal.{Refusal}
 use Rattle.pp_eval.specs.Evaluating.{refusal}
 use Rattle.catalog_semantics.specs.declared.catalog.Resource.{Resource}
 use Rattle.catalog_semantics.specs.declared.state.Default.{Default}
-use Rattle.catalog_semantics.specs.States.{filled, size_of_resources, attributes_limit}
+use Rattle.catalog_semantics.specs.States.{with_defaults, size_of_resources, attributes_limit}
 
 -- how large the attributes are where the first resources have their defaults, and those behind them not yet
 abbrev pub size_with : List Default → List Resource → List Resource → ℕ
-size_with defaults front back = size_of_resources (map (filled defaults) front ++ back)
+size_with defaults front back = size_of_resources (map (with_defaults defaults) front ++ back)
 
 -- One resource after the other gets its defaults, and the refusal is at the first with which the attributes are too large.
 pub record IsFirstTooLarge (defaults : List Default) (resources : List Resource) (e : Refusal) : Type 0 where

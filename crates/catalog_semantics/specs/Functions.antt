@@ -16,7 +16,7 @@ use Rattle.pp_eval.specs.Evaluation.{evaluated, values_in, shown_of, limited_tex
 use Rattle.catalog_semantics.specs.declared.catalog.Resource.{Resource}
 use Rattle.catalog_semantics.specs.declared.state.Side.TheVariants as side
 use Rattle.catalog_semantics.specs.Sites.{Site}
-use Rattle.catalog_semantics.specs.States.{State, Effect, in_turn, place_of, held, tied, wanted}
+use Rattle.catalog_semantics.specs.States.{State, Effect, in_turn, place_of, held, tied, with_pending}
 use Rattle.catalog_semantics.specs.Attributes.{references_in}
 use Rattle.catalog_semantics.specs.Declaring.{Bodies, class_ref, class_included}
 
@@ -89,7 +89,7 @@ each_class f x s = do
 abbrev pub realizes : ℕ → Argument → Effect
 realizes at x s = do
   refs ← if_there x.0 (references_in x.1)
-  Ok (wanted (map (λ ref. record { target = ref; at = at }) refs) s)
+  Ok (with_pending (map (λ ref. record { target = ref; at = at }) refs) s)
 
 -- a shown argument, unless it is too large
 abbrev pub shown_argument : Argument → Result (List ℕ) Refusal

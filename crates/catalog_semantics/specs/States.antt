@@ -107,8 +107,8 @@ abbrev pub lacks : List Pair → Pair → Bool
 lacks attributes p = is_none (value_at p.0 attributes)
 
 -- a resource with the defaults of its type that it hasn't got; a class has none
-abbrev pub filled : List Default → Resource → Resource
-filled defaults r =
+abbrev pub with_defaults : List Default → Resource → Resource
+with_defaults defaults r =
     if is_class r then r else record r {
       attrs =
           r.attrs ++ filter (lacks r.attrs) (defaults_of r.id.kind defaults);
@@ -118,7 +118,7 @@ filled defaults r =
 
 -- Once the main code has ended, a resource has its defaults from the start.
 abbrev pub as_added : State → Resource → Resource
-as_added s r = if s.main_has_ended then filled s.defaults r else r
+as_added s r = if s.main_has_ended then with_defaults s.defaults r else r
 
 abbrev pub with_resource : State → Resource → State
 with_resource s r = record s { resources = s.resources ++ r ∷ [] }
@@ -154,5 +154,5 @@ abbrev pub collected : Collector → State → State
 collected c s = record s { collectors = s.collectors ++ c ∷ [] }
 
 -- more references that are to be realized
-abbrev pub wanted : List Pending → State → State
-wanted more s = record s { pending = s.pending ++ more }
+abbrev pub with_pending : List Pending → State → State
+with_pending more s = record s { pending = s.pending ++ more }

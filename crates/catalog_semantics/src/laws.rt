@@ -26,7 +26,7 @@ ghost use Rattle.pp_data.specs.Lookup.{lookup};
 ghost use Rattle.catalog_semantics.specs.declared.catalog.Resource.{Resource};
 ghost use Rattle.catalog_semantics.specs.Sites.{Parameter, Definition, Node, Site, node_of, node_block, definition_of, inherits_itself, MeetsTwice};
 ghost use Rattle.catalog_semantics.specs.Rooms.{Room, in_block, in_body, has_room_for};
-ghost use Rattle.catalog_semantics.specs.States.{State, Default, Effect, in_turn, references_of, is_declared, filled};
+ghost use Rattle.catalog_semantics.specs.States.{State, Default, Effect, in_turn, references_of, is_declared, with_defaults};
 ghost use Rattle.catalog_semantics.specs.Declaring.{given_or_else, entering, opened, Bodies, within, body_in, class_ref, class_resource, class_runs, class_included, parents_of};
 ghost use Rattle.catalog_semantics.specs.Effects.{assigned, chained, called, first_true, unless_true, selected_block, effect_with};
 ghost use Rattle.catalog_semantics.specs.Effects.{block_with, arm_with, options_with, effect_of, effect_at, bodies_at};
@@ -130,7 +130,7 @@ pub fn given_values_win()
 /// An attribute that a resource has wins over a default.
 pub fn attributes_win_over_defaults()
     ensures { (defaults : List Default) (r : Resource) (name : List ℕ) (x : Value) → value_at name r.attrs ≡ Some x
-        → value_at name (filled defaults r).attrs ≡ Some x }
+        → value_at name (with_defaults defaults r).attrs ≡ Some x }
 {}
 
 /// The parents that run before a class are those that aren't declared yet, each once, and each ahead of what inherits it.
@@ -143,7 +143,7 @@ pub fn parents_go_ahead()
 /// large.
 pub fn defaults_take_hold()
     ensures filled { (s t : State) → main_ended s ≡ Ok t
-        → t ≡ record s { main_has_ended = true; resources = map (filled s.defaults) s.resources } }
+        → t ≡ record s { main_has_ended = true; resources = map (with_defaults s.defaults) s.resources } }
     ensures refused { (s : State) (e : Refusal) → main_ended s ≡ Err e → IsFirstTooLarge s.defaults s.resources e }
 {}
 

@@ -8,6 +8,7 @@ use Rattle.cnf.specs.declared.lit.Lit.{Lit}
 use Rattle.cnf.specs.Clauses.{IsClause, HasVariables}
 use Rattle.cnf.specs.Formulas.{Formula, IsFormula, clause_at}
 use Rattle.cnf.specs.Store.{index_of, lit_of, clauses_from, formula_of, Rise, IsStored, start_of}
+use Rattle.rh_base.proofs.Lists.{all_last}
 
 -- the literal that has a literal's index is that literal
 pub lit_of-index_of : (l : Lit) → 1 ≤ l.var → lit_of (index_of l) ≡ l
@@ -30,17 +31,17 @@ map_lit_of-map_index_of n (l ∷ c) h = ap (λ x. x ∷ map lit_of (map index_of
 
 -- ---- one more clause
 -- what stands in a part of the array stands there with more behind it
-range_append : (literals more : List ℕ) (a b : ℕ) → a ≤ b → b ≤ length literals → slice_range (literals ++ more) a b ≡ slice_range literals a b
+pub range_append : (literals more : List ℕ) (a b : ℕ) → a ≤ b → b ≤ length literals → slice_range (literals ++ more) a b ≡ slice_range literals a b
 range_append literals more a b h k =
     ap (take (b - a)) (drop-append-le a literals more (omega arith)) ∙ take-append-le (b - a) (drop a literals) more (omega (arith, length-drop a literals))
 
 -- what was put behind the array is what stands there up to the end
-range_last : (literals more : List ℕ) (n : ℕ) → n ≡ length (literals ++ more) → slice_range (literals ++ more) (length literals) n ≡ more
+pub range_last : (literals more : List ℕ) (n : ℕ) → n ≡ length (literals ++ more) → slice_range (literals ++ more) (length literals) n ≡ more
 range_last literals more n e =
     ap (take (n - length literals)) (drop_at literals more (length literals) refl) ∙ take_all (n - length literals) more (omega (arith, length-append literals more))
 
 -- places that rise to an end begin no later than there
-rise_within : (s : ℕ) (ends : List ℕ) (n : ℕ) → Rise s ends n → s ≤ n
+pub rise_within : (s : ℕ) (ends : List ℕ) (n : ℕ) → Rise s ends n → s ≤ n
 rise_within s [] n h = omega arith
 rise_within s (e ∷ ends) n h = let a = h.0 in let b = rise_within e ends n h.1 in omega arith
 
@@ -57,11 +58,6 @@ clauses_push s literals more (end ∷ ends) n h e =
     let within = rise_within end ends (length literals) h.1 in
     ap (λ (ls : List ℕ). map lit_of ls ∷ clauses_from end (literals ++ more) (ends ++ n ∷ [])) (range_append literals more s end h.0 within)
     ∙ ap (λ cs. map lit_of (slice_range literals s end) ∷ cs) (clauses_push end literals more ends n h.1 e)
-
--- what holds of all entries and of one more holds of all with it
-pub all_push : {X : Type 0} (P : X → Type 0) (xs : List X) (x : X) → AllByRecursion P xs → P x → AllByRecursion P (xs ++ x ∷ [])
-all_push P [] x h p = (p, tt)
-all_push P (y ∷ xs) x h p = (h.0, all_push P xs x h.1 p)
 
 -- ---- a clause by its index
 -- there are as many clauses as ends
@@ -120,8 +116,8 @@ module _ (vars : ℕ) (literals ends : List ℕ) (c : List Lit) (s : IsStored va
     small = s.small;
     rise = rise_push 0 ends (length literals) (length (literals ++ map index_of c)) s.rise (let e = length-append literals (map index_of c) in omega arith);
     formula = subst IsFormula (sym formula_push) (record {
-      clauses = all_push IsClause (clauses_from 0 literals ends) c s.formula.clauses clause;
-      variables = all_push (HasVariables vars) (clauses_from 0 literals ends) c s.formula.variables variables;
+      clauses = all_last IsClause (clauses_from 0 literals ends) c s.formula.clauses clause;
+      variables = all_last (HasVariables vars) (clauses_from 0 literals ends) c s.formula.variables variables;
     });
   }
 

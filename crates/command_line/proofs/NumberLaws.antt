@@ -1,24 +1,15 @@
 -- A number in the words is from 1 to the greatest one.
-use Rattle.std.proofs.Common.{◌≡◌, ◌≤◌, ◌+◌, ◌-◌, ◌*◌, ◌==◌, ◌&&◌, ℕ, Bool, true, false, cond, nat_le, List, [], ◌∷◌, Option, Some, None, refl, arith, leb-true}
+use Rattle.std.proofs.Common.{◌≡◌, ◌≤◌, ◌+◌, ◌-◌, ◌*◌, ◌==◌, ◌&&◌, ℕ, cond, nat_le, List, [], ◌∷◌, Some, None, arith, leb-true}
 use Rattle.std.proofs.lemmas.Bool.{eqb-false, and_parts}
 use Rattle.command_line.specs.Words.{digits_within, number_in}
-
--- what a test guards
-guarded : {X : Type 0} (b : Bool) (x : Option X) (y : X) → cond b x None ≡ Some y → (b ≡ true) × (x ≡ Some y)
-guarded true x y h = (refl, h)
-guarded false x y h = cc
-
--- what is there unless a test holds is there because it doesn't
-barred : {X : Type 0} (b : Bool) (x : Option X) (y : X) → cond b None x ≡ Some y → (b ≡ false) × (x ≡ Some y)
-barred true x y h = cc
-barred false x y h = (refl, h)
+use Rattle.rh_base.proofs.Options.{if_some, unless_some}
 
 -- a digit, and what is behind it
 one_digit : (most n b m : ℕ) (word : List ℕ) → digits_within most n (b ∷ word) ≡ Some m
     → (48 ≤ b) × (10 * n + (b - 48) ≤ most) × (digits_within most (10 * n + (b - 48)) word ≡ Some m)
 one_digit most n b m word h =
-    let outer = guarded (nat_le 48 b && nat_le b 57) (cond (nat_le (10 * n + (b - 48)) most) (digits_within most (10 * n + (b - 48)) word) None) m h in
-    let inner = guarded (nat_le (10 * n + (b - 48)) most) (digits_within most (10 * n + (b - 48)) word) m outer.1 in
+    let outer = if_some (nat_le 48 b && nat_le b 57) (cond (nat_le (10 * n + (b - 48)) most) (digits_within most (10 * n + (b - 48)) word) None) m h in
+    let inner = if_some (nat_le (10 * n + (b - 48)) most) (digits_within most (10 * n + (b - 48)) word) m outer.1 in
     let digit = and_parts (nat_le 48 b) (nat_le b 57) outer.0 in
     (leb-true 48 b digit.0, leb-true (10 * n + (b - 48)) most inner.0, inner.1)
 
@@ -39,7 +30,7 @@ at_most most n m (b ∷ word) small h = let one = one_digit most n b m word h in
 pub in_range : (most m : ℕ) (word : List ℕ) → number_in most word ≡ Some m → (1 ≤ m) × (m ≤ most)
 in_range most m [] h = cc
 in_range most m (b ∷ word) h =
-    let some = barred (b == 48) (digits_within most 0 (b ∷ word)) m h in
+    let some = unless_some (b == 48) (digits_within most 0 (b ∷ word)) m h in
     let no_zero = eqb-false b 48 some.0 in
     let one = one_digit most 0 b m word some.1 in
     let more = at_least most (10 * 0 + (b - 48)) m word one.2 in

@@ -157,17 +157,17 @@ abbrev pub roles : List Role
 roles = role.Facts ∷ role.Packages ∷ role.Data ∷ role.Compiled ∷ role.Input ∷ role.Other ∷ role.Tree ∷ role.Order ∷ role.Assume ∷ role.Given ∷ []
 
 -- the place of each
-abbrev pub place : Role → ℕ
-place role.Facts = 0
-place role.Packages = 1
-place role.Data = 2
-place role.Compiled = 3
-place role.Input = 4
-place role.Other = 5
-place role.Tree = 6
-place role.Order = 7
-place role.Assume = 8
-place role.Given = 9
+abbrev pub role_index : Role → ℕ
+role_index role.Facts = 0
+role_index role.Packages = 1
+role_index role.Data = 2
+role_index role.Compiled = 3
+role_index role.Input = 4
+role_index role.Other = 5
+role_index role.Tree = 6
+role_index role.Order = 7
+role_index role.Assume = 8
+role_index role.Given = 9
 
 -- how many bytes a file may have
 abbrev pub limit_or : Option ℕ → ℕ → ℕ
@@ -185,9 +185,9 @@ abbrev pub ByRole : Type 0 → Type 0
 ByRole A = List (Role × A)
 
 -- the content of the file of a role, if there is one
-abbrev pub given : {A : Type 0} → Role → ByRole A → Option A
-given r [] = None
-given r (f ∷ files) = if place f.0 == place r then Some f.1 else given r files
+abbrev pub load_of : {A : Type 0} → Role → ByRole A → Option A
+load_of r [] = None
+load_of r (f ∷ files) = if role_index f.0 == role_index r then Some f.1 else load_of r files
 
 -- the same files, in the same order, with contents of which each has to do with the other so
 abbrev pub Each : {A B : Type 0} → (Role → A → B → Type 0) → ByRole A → ByRole B → Type 0
@@ -202,7 +202,7 @@ kind_or None kind = kind
 kind_or (Some x) kind = input.Compiled
 
 abbrev pub input_kind : {A : Type 0} → Ask → ByRole A → InputKind
-input_kind a files = kind_or (given role.Compiled files) (ask_row a).input
+input_kind a files = kind_or (load_of role.Compiled files) (ask_row a).input
 
 -- ---- the options
 

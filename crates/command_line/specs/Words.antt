@@ -21,7 +21,7 @@ use Rattle.command_line.specs.declared.request.Request.{Request}
 use Rattle.command_line.specs.declared.size.TheConstants.{MOST_WORKLOAD}
 use Rattle.command_line.specs.declared.words.WordsFault.{WordsFault}
 use Rattle.command_line.specs.declared.words.WordsFault.TheVariants as fault
-use Rattle.command_line.specs.Table.{has, beside, with_catalog, ask_row, ask_named, limits_named, role_row, roles, ByRole, given, options}
+use Rattle.command_line.specs.Table.{has, beside, with_catalog, ask_row, ask_named, limits_named, role_row, roles, ByRole, load_of, options}
 
 -- an option that takes one value, as `--facts F`
 abbrev pub option_rule : Text → Rule
@@ -112,11 +112,11 @@ with_other true names (Some name) = Some (source.Files names)
 -- the same, if the input is among them too, or a compiled catalog in its place
 abbrev pub with_input : Bool → ByRole Text → Option Text → Option Source
 with_input compares names None = None
-with_input compares names (Some name) = with_other compares names (given role.Other names)
+with_input compares names (Some name) = with_other compares names (load_of role.Other names)
 
 -- what is asked about: a workload, or files, of which one is the input or a compiled catalog, and one what it is compared with, if it is
 abbrev pub source_in : Bool → Option ℕ → ByRole Text → Option Source
-source_in compares None names = with_input compares names (option_or (given role.Compiled names) (given role.Input names))
+source_in compares None names = with_input compares names (option_or (load_of role.Compiled names) (load_of role.Input names))
 source_in compares (Some n) names = Some (source.Workload n)
 
 -- the request about a workload or files, with those options that serve one of the tasks

@@ -2,7 +2,7 @@
 
 ghost use Rattle.std.specs.Prelude.{◌≡◌};
 ghost use Rattle.std.specs.Option.{option_map};
-ghost use Rattle.command_line.specs.Table.{given, input_kind};
+ghost use Rattle.command_line.specs.Table.{load_of, input_kind};
 
 use crate::size::Size;
 use crate::table::{Ask, InputKind, Role};
@@ -36,7 +36,7 @@ pub struct Request {
 
 /// The content of the file of a role, if there is one.
 pub fn given<T>(files: &[(Role, T)], role: Role) -> Option<&T>
-    ensures { option_map (λ x. x.now) result ≡ given role files.now }
+    ensures { option_map (λ x. x.now) result ≡ load_of role files.now }
 {
     for file in files {
         if file.0.is(role) {

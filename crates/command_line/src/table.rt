@@ -2,7 +2,7 @@
 
 ghost use Rattle.std.specs.Prelude.{◌≡◌, ◌==◌, ◌<◌, ◌^◌};
 ghost use Rattle.std.specs.Option.{option_map};
-ghost use Rattle.command_line.specs.Table.{reading, compiling, modelling, judging, rehearsing, replaying, wanting, comparing, has, beside, over_catalog, with_catalog, bytes_of, ask_row, ask_among, ask_named, limits_named, role_row, limit_of, place, usage_line};
+ghost use Rattle.command_line.specs.Table.{reading, compiling, modelling, judging, rehearsing, replaying, wanting, comparing, has, beside, over_catalog, with_catalog, bytes_of, ask_row, ask_among, ask_named, limits_named, role_row, limit_of, role_index, usage_line};
 
 use crate::size::Size;
 use host_limits::Limits;
@@ -476,7 +476,7 @@ impl Role {
 
     /// Whether it is this one.
     pub(crate) fn is(self, role: Role) -> bool
-        ensures { result ≡ (place self == place role) }
+        ensures { result ≡ (role_index self == role_index role) }
     {
         self == role
     }

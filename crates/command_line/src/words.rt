@@ -6,7 +6,7 @@ ghost use Rattle.clap.specs.Words.{found_of, rows_of, first_of, matches_of, faul
 ghost use Rattle.clap.specs.declared.error.kind.ErrorKind.TheVariants.{OutOfMemory};
 ghost use Rattle.command_line.specs.declared.size.TheConstants.{MOST_WORKLOAD};
 ghost use Rattle.command_line.specs.Words.{synopsis, ask_in, taken, taken_number, limits_beside, taken_limits, names_in, with_other, with_input, source_in, request_for, request_in, IsEntryAt, IsWanted, IsGiven, Makes, IfRefused, IsMade, IsWithin};
-ghost use Rattle.command_line.specs.Table.{given};
+ghost use Rattle.command_line.specs.Table.{load_of};
 ghost use Rattle.command_line.specs.declared.request.Request.{Request};
 ghost use Rattle.command_line.specs.declared.table.Role.TheVariants.{Compiled, Input, Other};
 ghost use Rattle.wanted_entry.specs.declared.wanted.Wanted.{Wanted};
@@ -164,7 +164,7 @@ fn names_of(
 
 /// The files of these names, of which one has to be the manifest to compare with where two are compared.
 fn with_other(compares: bool, names: ByRole<Text>) -> Result<Source, WordsFault>
-    ensures { IsMade (with_other compares names (given Other names)) result }
+    ensures { IsMade (with_other compares names (load_of Other names)) result }
 {
     if !compares {
         return Ok(Source::Files(names));
@@ -177,7 +177,7 @@ fn with_other(compares: bool, names: ByRole<Text>) -> Result<Source, WordsFault>
 
 /// Whether the input is among these names, or a compiled catalog in its place.
 fn has_input(names: &[(Role, Text)]) -> bool
-    ensures { result ≡ is_some (option_or (given Compiled names.now) (given Input names.now)) }
+    ensures { result ≡ is_some (option_or (load_of Compiled names.now) (load_of Input names.now)) }
 {
     given(names, Role::Compiled).is_some() || given(names, Role::Input).is_some()
 }

@@ -8,8 +8,9 @@ use Rattle.fs_semantics.proofs.Counts.{all_from}
 use Rattle.commute_prune.specs.Pruning.{Leads, AreSome, EndsAsKept}
 use Rattle.sure_folders.specs.Pruning.{without, Move, ToFirst, ToLast, firsts, lasts, chosen, between}
 use Rattle.commute_prune.proofs.MovedLaws.{ApartCommute, AllAgree, agree_from, kept_of, completed}
-use Rattle.commute_prune.proofs.StepLaws.{up_below, without_keeps, without_short}
+use Rattle.commute_prune.proofs.StepLaws.{without_keeps, without_short}
 use Rattle.sure_folders.proofs.Places.{place, AtMostOnce, back_and_forth, as_places, as_numbers, replaced, order_of_all, all_in_order, length-up, once_up, fewer}
+use Rattle.fs_semantics.proofs.Ground.{up_below}
 
 module _ (before : ℕ → ℕ → Type 0) where
   -- where the chosen programs are deterministic, all orders of their numbers end alike

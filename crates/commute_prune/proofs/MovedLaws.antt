@@ -14,6 +14,7 @@ use Rattle.effect_sets.specs.Footprints.{footprint, AreApart}
 use Rattle.commute_prune.specs.Pruning.{ApartAt, MayBeLast, MayBeFirst, Leads}
 use Rattle.sure_folders.specs.Pruning.{without, IsOrderOf, Move, ToFirst, ToLast, firsts, lasts}
 use Rattle.sure_folders.proofs.Lists.{none_left, others_left}
+use Rattle.sure_folders.proofs.Pruned.{rest_same, still_one}
 
 -- all orders of ks end alike
 abbrev pub AllAgree : List Program → (ℕ → ℕ → Type 0) → List ℕ → Type 0
@@ -29,29 +30,11 @@ proper_at [] all i = tt
 proper_at (e ∷ es) all zero = all.0
 proper_at (e ∷ es) all (suc i) = proper_at es all.1 i
 
--- how often a number stands in a list from which one is taken
-split_times : (j k : ℕ) (f g : List ℕ) → times j (f ++ k ∷ g) ≡ times j (f ++ g) + cond (k == j) 1 0
-split_times j k f g = omega (arith, times_append j f (k ∷ g), times_append j f g)
-
--- an order without one of its numbers has the others as often as before
-rest_same : (k : ℕ) (ks f g : List ℕ) → times k ks ≡ 1 → ((j : ℕ) → times j (f ++ k ∷ g) ≡ times j ks) → (j : ℕ) → times j (f ++ g) ≡ times j (without k ks)
-rest_same k ks f g once same j = elim (k == j) as (λ b. (k == j) ≡ b → times j (f ++ k ∷ g) ≡ times j (f ++ g) + cond b 1 0 → times j (f ++ g) ≡ times j (without k ks)) [
-  | true ↦ λ e h. let is : k ≡ j = eqb-true k j e in omega (arith, h, same j, ap (λ i. times i ks) is, once, none_left k ks, ap (λ i. times i (without k ks)) is)
-  | false ↦ λ e h. omega (arith, h, same j, others_left j k ks (λ f. eqb-false k j e (sym f)))
-] refl (split_times j k f g)
-
 -- an order of the others, with that number in front, has each as often as before
 more_same : (k : ℕ) (ks o : List ℕ) → times k ks ≡ 1 → ((j : ℕ) → times j o ≡ times j (without k ks)) → (j : ℕ) → times j (k ∷ o) ≡ times j ks
 more_same k ks o once same j = elim (k == j) as (λ b. (k == j) ≡ b → cond b 1 0 + times j o ≡ times j ks) [
   | true ↦ λ e. let is : k ≡ j = eqb-true k j e in omega (arith, same j, ap (λ i. times i ks) is, once, none_left k ks, ap (λ i. times i (without k ks)) is)
   | false ↦ λ e. omega (arith, same j, others_left j k ks (λ f. eqb-false k j e (sym f)))
-] refl
-
--- what is left is one of all
-still_one : (j k : ℕ) (ks : List ℕ) → 0 < times j (without k ks) → 0 < times j ks
-still_one j k ks h = elim (j == k) as (λ b. (j == k) ≡ b → 0 < times j ks) [
-  | true ↦ λ e. let is : j ≡ k = eqb-true j k e in absurd (omega (arith, h, none_left k ks, ap (λ i. times i (without k ks)) is))
-  | false ↦ λ e. omega (arith, h, others_left j k ks (eqb-false j k e))
 ] refl
 
 module _ (apart_commute : ApartCommute) (es : List Program) (proper : AllByRecursion IsProper es) (before : ℕ → ℕ → Type 0) where

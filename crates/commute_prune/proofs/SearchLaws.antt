@@ -12,9 +12,11 @@ use Rattle.commute_prune.specs.declared.search.Search.{Search}
 use Rattle.sure_folders.specs.Pruning.{without}
 use Rattle.commute_prune.specs.Steps.{lets}
 use Rattle.commute_prune.specs.Search.{blocks, AreMarked, IsSeen, IsSearch, IsNothingSeen}
-use Rattle.sure_folders.proofs.Places.{up_once, higher_none}
+use Rattle.sure_folders.proofs.Places.{higher_none}
 use Rattle.sure_folders.proofs.Lists.{none_left, others_left}
 use Rattle.commute_prune.proofs.PrunedLaws.{all_true, true_all}
+use Rattle.sure_folders.proofs.Pruned.{still_one}
+use Rattle.fs_semantics.proofs.Ground.{once_up}
 
 -- ---- nothing seen
 
@@ -23,7 +25,7 @@ marked_at_first : (n : ℕ) → AreMarked (up_from 0 n) (replicate n true)
 marked_at_first n j = elim (cases_Bool (nat_lt j n)) [
   | inl less ↦
       let h = ltb-true j n less in
-      ((λ m. let once = up_once 0 n j (omega arith) (omega (arith, h)) in omega (arith, once)), λ t. get_or-replicate n j true false h)
+      ((λ m. let once = once_up 0 n j (omega arith) (omega (arith, h)) in omega (arith, once)), λ t. get_or-replicate n j true false h)
   | inr more ↦
       let h = ltb-false j n more in
       let none = higher_none 0 n j (omega (arith, h)) in
@@ -56,13 +58,6 @@ search_starts order rows kept s all h = record {
 
 -- ---- one is taken out
 
--- what is kept without a program was kept before
-kept_before : (j k : ℕ) (kept : List ℕ) → 0 < times j (without k kept) → 0 < times j kept
-kept_before j k kept h = elim (cases_Bool (j == k)) [
-  | inl here ↦ let e = ap (λ i. times i (without k kept)) (eqb-true j k here) ∙ none_left k kept in absurd (omega (arith, h, e))
-  | inr other ↦ let e = others_left j k kept (eqb-false j k other) in omega (arith, h, e)
-]
-
 -- with its mark taken away the marks are those without it
 marked_without : (kept : List ℕ) (stays : List Bool) (k : ℕ) → k < length stays → AreMarked kept stays → AreMarked (without k kept) (slice_set stays k false)
 marked_without kept stays k within m j = elim (cases_Bool (j == k)) [
@@ -84,7 +79,7 @@ seen_without : (lets_go : ℕ → ℕ → Bool) (n : ℕ) (kept seen : List ℕ)
 seen_without lets_go n kept seen x h = record {
   long = h.long;
   few = h.few;
-  passed = λ k j less there. h.passed k j less (kept_before j x kept there);
+  passed = λ k j less there. h.passed k j less (still_one j x kept there);
 }
 
 -- the search goes on without a program that moved

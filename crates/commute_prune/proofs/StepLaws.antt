@@ -1,5 +1,5 @@
 -- Moves that are found, one after the other.
-use Rattle.std.proofs.Common.{◌≡◌, ℕ, suc, zero, ◌+◌, ◌<◌, ◌≤◌, Bool, true, false, cond, ◌==◌, List, [], ◌∷◌, ◌++◌, length, Option, Some, None, inl, inr, refl, sym, ap, subst, ◌∙◌, arith, append_assoc}
+use Rattle.std.proofs.Common.{◌≡◌, ℕ, ◌+◌, ◌<◌, ◌≤◌, Bool, true, false, cond, ◌==◌, List, [], ◌∷◌, ◌++◌, length, Option, Some, None, inl, inr, refl, sym, ap, subst, ◌∙◌, arith, append_assoc}
 use Rattle.std.specs.Prelude.{◌↔◌, IsTrue}
 use Rattle.std.specs.List.{AllByRecursion, find}
 use Rattle.std.proofs.lemmas.Bool.{cases_Bool}
@@ -11,15 +11,11 @@ use Rattle.commute_prune.specs.declared.settling.Pruning.{Pruning}
 use Rattle.sure_folders.specs.Pruning.{Move, ToFirst, ToLast, without, firsts}
 use Rattle.commute_prune.specs.Steps.{may_last, may_first, or_first, next_move}
 use Rattle.commute_prune.specs.Pruned.{lates, Stepped, Finds, subject, IsStart, IsOnTheWay}
+use Rattle.fs_semantics.proofs.Ground.{up_below}
 
 -- an answer that is true exactly where one comes before the other is what the order tells
 pub told_by : (order : Relation) (a b : _) (r : Bool) → IsTrue r ↔ Comes order a b → r ≡ comes order a b
 told_by order a b r h = same_bool r (comes order a b) h.0 h.1
-
--- the numbers from one on, so many, are below their end
-pub up_below : (k n m : ℕ) → k + n ≤ m → AllByRecursion (λ j. j < m) (up_from k n)
-up_below k zero m h = tt
-up_below k (suc n) m h = (omega arith, up_below (suc k) n m (omega arith))
 
 -- at first all kept numbers are those of programs
 pub start_below : (order : Relation) (ks : List ℕ) → ks ≡ up_from 0 order.count → AllByRecursion (λ j. j < order.count) ks

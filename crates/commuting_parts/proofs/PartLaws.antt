@@ -15,7 +15,7 @@ use Rattle.commuting_parts.specs.Runs.{Run, thens, SameFrom, SwapFrom, LeadsTo}
 use Rattle.effect_sets.specs.Footprints.{Footprint, nowhere, footprint}
 use Rattle.effect_sets.specs.Members.{members}
 use Rattle.commuting_parts.specs.Prints.{TreeWith, CommuteWith, IsClearIn, AreApartIn}
-use Rattle.commuting_parts.specs.Parts.{runs, part, marked, unmarked, IsApartFrom, AreParts}
+use Rattle.commuting_parts.specs.Parts.{runs, part, chosen_by, unmarked, IsApartFrom, AreParts}
 use Rattle.commuting_parts.proofs.CommuteLaws.{leads_on, reworded, ahead_of_shared}
 use Rattle.commuting_parts.proofs.PrintLaws.{Within, front_within, apart_within}
 
@@ -50,21 +50,21 @@ then_one e u = by (run (program_of e) u)
 module _ (P : Tree → Type 0) (marks : ℕ → Bool) (ks : List Program) where
   -- the own steps of a list go ahead of the shared ones before them
   abbrev GoAhead : ℕ → List Program → Type 0
-  GoAhead i es = (front : List Program) → ks ≡ front ++ marked marks i es → AllByRecursion (MovesAhead P ks) (unmarked marks i es)
+  GoAhead i es = (front : List Program) → ks ≡ front ++ chosen_by marks i es → AllByRecursion (MovesAhead P ks) (unmarked marks i es)
       → SameFrom P (thens (runs front) (runs es)) (thens (runs (unmarked marks i es)) (runs ks))
 
   -- where they do so in what follows a step, they do so in the list with that step
   one_more : (b : Bool) (i : ℕ) (e : Program) (es : List Program) → GoAhead (suc i) es → (front : List Program)
-      → ks ≡ front ++ cond b (e ∷ marked marks (suc i) es) (marked marks (suc i) es)
+      → ks ≡ front ++ cond b (e ∷ chosen_by marks (suc i) es) (chosen_by marks (suc i) es)
       → AllByRecursion (MovesAhead P ks) (cond b (unmarked marks (suc i) es) (e ∷ unmarked marks (suc i) es))
       → SameFrom P (thens (runs front) (runs (e ∷ es))) (thens (runs (cond b (unmarked marks (suc i) es) (e ∷ unmarked marks (suc i) es))) (runs ks))
   one_more true i e es ahead front is all t good =
       sym (and_then_assoc (runs front t) (run (program_of e)) (runs es))
       ∙ ap (λ r. and_then r (runs es)) (then_alike (runs front t) (run (program_of e)) (runs (e ∷ [])) (λ u k. sym (then_one e u)) ∙ sym (runs_append front (e ∷ []) t))
-      ∙ ahead (front ++ e ∷ []) (is ∙ sym (append_assoc front (e ∷ []) (marked marks (suc i) es))) all t good
+      ∙ ahead (front ++ e ∷ []) (is ∙ sym (append_assoc front (e ∷ []) (chosen_by marks (suc i) es))) all t good
   one_more false i e es ahead front is all t good =
       sym (and_then_assoc (runs front t) (run (program_of e)) (runs es))
-      ∙ ap (λ r. and_then r (runs es)) (sym (all.0.swaps front (marked marks (suc i) es) is t good))
+      ∙ ap (λ r. and_then r (runs es)) (sym (all.0.swaps front (chosen_by marks (suc i) es) is t good))
       ∙ and_then_assoc (run (program_of e) t) (runs front) (runs es)
       ∙ then_alike (run (program_of e) t) (thens (runs front) (runs es)) (thens (runs (unmarked marks (suc i) es)) (runs ks)) (λ u k.
       ahead front is all.1 u (all.0.keeps t u good k))
@@ -124,24 +124,24 @@ module _ (commute : (folders : BTreeSet Path) (e f : model.Program) → IsProper
   all_ahead ks proper (e ∷ es) all = (moves_ahead ks proper e all.0, all_ahead ks proper es all.1)
 
   -- a list is its own steps and then the shared ones
-  pub apart_parts : (marks : ℕ → Bool) (es : List Program) → IsProper (part (marked marks 0 es))
-      → AllByRecursion (λ e. IsApartFrom folders (footprint (part (marked marks 0 es))) (program_of e)) (unmarked marks 0 es)
-      → SameFrom (TreeWith folders) (runs es) (thens (runs (unmarked marks 0 es)) (runs (marked marks 0 es)))
+  pub apart_parts : (marks : ℕ → Bool) (es : List Program) → IsProper (part (chosen_by marks 0 es))
+      → AllByRecursion (λ e. IsApartFrom folders (footprint (part (chosen_by marks 0 es))) (program_of e)) (unmarked marks 0 es)
+      → SameFrom (TreeWith folders) (runs es) (thens (runs (unmarked marks 0 es)) (runs (chosen_by marks 0 es)))
   apart_parts marks es proper all =
-      own_ahead (TreeWith folders) marks (marked marks 0 es) 0 es [] refl (all_ahead (marked marks 0 es) proper (unmarked marks 0 es) all)
+      own_ahead (TreeWith folders) marks (chosen_by marks 0 es) 0 es [] refl (all_ahead (chosen_by marks 0 es) proper (unmarked marks 0 es) all)
 
   -- lists commute where their own steps are apart, and apart from those that they share
-  pub parts_swap : (marks others : ℕ → Bool) (es fs : List Program) → AreParts folders (unmarked marks 0 es) (marked marks 0 es) (unmarked others 0 fs) (marked others 0 fs)
+  pub parts_swap : (marks others : ℕ → Bool) (es fs : List Program) → AreParts folders (unmarked marks 0 es) (chosen_by marks 0 es) (unmarked others 0 fs) (chosen_by others 0 fs)
       → SwapFrom (TreeWith folders) (runs es) (runs fs)
   parts_swap marks others es fs a =
       let P = TreeWith folders in
       let m = runs (unmarked marks 0 es) in
       let n = runs (unmarked others 0 fs) in
-      let k = runs (marked marks 0 es) in
-      let same : k ≡ runs (marked others 0 fs) = ap (λ (x : model.Programs). run_all x) a.same in
+      let k = runs (chosen_by marks 0 es) in
+      let same : k ≡ runs (chosen_by others 0 fs) = ap (λ (x : model.Programs). run_all x) a.same in
       let own = part (unmarked marks 0 es) in
       let other = part (unmarked others 0 fs) in
-      let shared = part (marked marks 0 es) in
+      let shared = part (chosen_by marks 0 es) in
       let keep_own : LeadsTo P P m = keeps folders own (footprint shared) a.left.0 a.left.1.left in
       let keep_other : LeadsTo P P n = keeps folders other (footprint shared) a.right.0 a.right.1.left in
       let keep : LeadsTo P P k = keeps folders shared (footprint own) a.proper a.left.1.right in
@@ -155,8 +155,6 @@ module _ (commute : (folders : BTreeSet Path) (e f : model.Program) → IsProper
       (commute folders own other a.owns.0 a.right.0 a.owns.1)
       (commute folders own shared a.left.0 a.proper a.left.1)
       (commute folders other shared a.right.0 a.proper a.right.1))
-
--- ---- a list that is walked
 
 -- ---- a list and its first steps
 

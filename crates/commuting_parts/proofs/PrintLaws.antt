@@ -3,7 +3,7 @@ use Rattle.std.proofs.Common.{◌≡◌, ◌≢◌, ◌⊎◌, inl, inr, ℕ, �
 use Rattle.std.specs.List.{AllByRecursion}
 use Rattle.std.specs.Prelude.{IsTrue}
 use Rattle.std.specs.BTreeSet.{BTreeSet}
-use Rattle.std.proofs.lemmas.Bool.{or_cases, or_left, or_right, both_ways, cases_Bool}
+use Rattle.std.proofs.lemmas.Bool.{or_left, or_right, both_ways, cases_Bool, false_from_ne_true}
 use Rattle.fs_semantics.specs.FileTree.{Path, Tree, IsTree, HasParents, parent, path_eq, is_dir, is_root}
 use Rattle.fs_semantics.specs.Programs.{Test, True, False, Not, And, Or, IsFile, IsLink, IsDir, IsEmpty, IsNone, Program, Id, Err, Mkdir, If, run}
 use Rattle.fs_semantics.specs.Changes.{IsProper, CommuteFrom, Commutes}
@@ -19,11 +19,8 @@ use Rattle.sure_folders.specs.Apart.{Leaves, where_stand, AreApartWith}
 use Rattle.commuting_parts.specs.Runs.{LeadsTo, LeavesTest}
 use Rattle.commuting_parts.specs.Prints.{TreeWith, CommuteWith, IsClearIn, AreApartIn}
 use Rattle.commuting_parts.proofs.CommuteLaws.{leaves_asked}
-
--- what doesn't hold is false
-not_true : (b : Bool) → (b ≡ true → ⊥) → b ≡ false
-not_true true h = absurd (h refl)
-not_true false h = refl
+use Rattle.sure_folders.proofs.Within.{any_within, either_within}
+use Rattle.std.proofs.Math.Bool.{or-false}
 
 -- ---- what isn't written isn't removed
 
@@ -71,7 +68,7 @@ clear_with folders f g c = record {
 module _ (by : ByFootprints) where
   -- a program whose footprint is clear, some folders aside, removes none of them
   left_standing : (folders : Paths) (e : Program) (g : Footprint) → IsClearIn folders (footprint e) g → Leaves folders e
-  left_standing folders e g c p stands = unremoved by e p (not_true _ (λ w. both_ways _ (c.kept p w) stands))
+  left_standing folders e g c p stands = unremoved by e p (false_from_ne_true _ (λ w. both_ways _ (c.kept p w) stands))
 
   -- programs whose footprints are apart, some folders aside, are apart where those folders stand
   apart_with : (folders : Paths) (e f : Program) → AreApartIn folders (footprint e) (footprint f) → AreApartWith folders e f
@@ -146,35 +143,21 @@ front_within (e ∷ front) back sure =
     joined_within (footprint_after (program_of e) sure) (steps_footprint (programs_in front) (sure_after (program_of e) sure))
     (steps_footprint (programs_in (front ++ back)) (sure_after (program_of e) sure)) (front_within front back (sure_after (program_of e) sure))
 
--- where one of three holds, one of three others does that follow from them one by one
-three : (a b c d e f : Bool) → (a ≡ true → d ≡ true) → (b ≡ true → e ≡ true) → (c ≡ true → f ≡ true) → (a || b || c) ≡ true → (d || e || f) ≡ true
-three a b c d e f h k l m = elim (or_cases (a || b) c m) [
-  | inl m ↦ elim (or_cases a b m) [
-    | inl m ↦ or_left (d || e) f (or_left d e (h m))
-    | inr m ↦ or_left (d || e) f (or_right d e (k m))
-  ]
-  | inr m ↦ or_right (d || e) f (l m)
-]
-
--- where one of two holds, one of two others does that follow from them one by one
-two : (a b c d : Bool) → (a ≡ true → c ≡ true) → (b ≡ true → d ≡ true) → (a || b) ≡ true → (c || d) ≡ true
-two a b c d h k m = elim (or_cases a b m) [ inl m ↦ or_left c d (h m) | inr m ↦ or_right c d (k m) ]
-
 -- what is apart from a footprint is apart from what is within it
 pub apart_within : (folders : Paths) (x f g : Footprint) → Within f g → AreApartIn folders x g → AreApartIn folders x f
 apart_within folders x f g w a = record {
   left = record {
     kept = a.left.kept;
-    writes = λ q h. not_true _ (λ m. both_ways _ (a.left.writes q h)
-        (three (f.reads q) (f.writes q) (f.folders q) (g.reads q) (g.writes q) (g.folders q) (w.reads q) (w.writes q) (w.folders q) m));
+    writes = λ q h. false_from_ne_true _ (λ m. both_ways _ (a.left.writes q h)
+        (any_within (f.reads q) (f.writes q) (f.folders q) (g.reads q) (g.writes q) (g.folders q) (w.reads q) (w.writes q) (w.folders q) m));
     folders_made = λ q h r. a.left.folders_made q h (w.reads q r);
-    children = λ q h. not_true _ (λ m. both_ways _ (a.left.children q h) (w.children (parent q) m));
+    children = λ q h. false_from_ne_true _ (λ m. both_ways _ (a.left.children q h) (w.children (parent q) m));
   };
   right = record {
     kept = λ q h. a.right.kept q (w.writes q h);
     writes = λ q h. a.right.writes q (w.writes q h);
     folders_made = λ q h r. a.right.folders_made q (w.folders q h) r;
-    children = λ q h. a.right.children q (two (f.writes q) (f.folders q) (g.writes q) (g.folders q) (w.writes q) (w.folders q) h);
+    children = λ q h. a.right.children q (either_within (f.writes q) (f.folders q) (g.writes q) (g.folders q) (w.writes q) (w.folders q) h);
   };
 }
 
@@ -227,24 +210,19 @@ asked c = joined (test_footprint c nowhere) branches
 asks : (c : Test) → footprint (If c Err Id) ≡ asked c
 asks c = ap (λ o. in_case o (λ p. ensuring p nowhere) (asked c)) (not_ensured c)
 
--- something or false is just that
-plain : (x : Bool) → (x || false) ≡ x
-plain true = refl
-plain false = refl
-
 -- a test that is asked writes nothing and makes no folder
 unchanged : (c : Test) (q : Path) → ((asked c).writes q || (asked c).folders q) ≡ false
 unchanged c q =
-    (λ i. plain ((test_footprint c nowhere).writes q) i || plain ((test_footprint c nowhere).folders q) i) ∙ changes_nothing c nowhere q
+    (λ i. or-false ((test_footprint c nowhere).writes q) i || or-false ((test_footprint c nowhere).folders q) i) ∙ changes_nothing c nowhere q
 
 -- what is clear of what a test looks at is clear of the test asked
 clear_of_asked : (f : Footprint) (c : Test) → IsClearOf f (test_footprint c nowhere) → IsClearOf f (asked c)
 clear_of_asked f c clear =
     let t = test_footprint c nowhere in
     record {
-      writes = λ q h. (λ i. plain (t.reads q) i || plain (t.writes q) i || plain (t.folders q) i) ∙ clear.writes q h;
-      folders = λ q h. plain (t.reads q) ∙ clear.folders q h;
-      children = λ q h. plain (t.children (parent q)) ∙ clear.children q h;
+      writes = λ q h. (λ i. or-false (t.reads q) i || or-false (t.writes q) i || or-false (t.folders q) i) ∙ clear.writes q h;
+      folders = λ q h. or-false (t.reads q) ∙ clear.folders q h;
+      children = λ q h. or-false (t.children (parent q)) ∙ clear.children q h;
     }
 
 -- a test that is asked is clear of everything

@@ -1,5 +1,5 @@
 -- Sets of paths, by their members.
-use Rattle.std.proofs.Common.{◌≡◌, Bool, true, false, ◌||◌, List, ◌∷◌, inl, inr, refl, sym, ap, ◌∙◌}
+use Rattle.std.proofs.Common.{◌≡◌, Bool, true, false, ◌||◌, List, ◌∷◌, inl, inr, sym, ap, ◌∙◌}
 use Rattle.std.specs.BTreeSet.{BTreeSet}
 use Rattle.std.specs.Prelude.{IsTrue}
 use Rattle.std.proofs.lemmas.Bool.{or_cases, cases_Bool, both_ways}
@@ -7,12 +7,7 @@ use Rattle.fs_semantics.proofs.Trees.{path_eq_same}
 use Rattle.fs_semantics.specs.FileTree.{Path, path_eq, is_among}
 use Rattle.effect_sets.specs.Footprints.{Paths}
 use Rattle.effect_sets.specs.Members.{members, with_one}
-
--- the order in which three are asked doesn't matter
-turned : (b c y : Bool) → (c || (b || y)) ≡ ((b || c) || y)
-turned true true y = refl
-turned true false y = refl
-turned false c y = refl
+use Rattle.effect_sets.proofs.SetLaws.{turned}
 
 -- the next path of a walk
 pub one_added : (old rest : List Path) (p : Path) (g h : Paths) (q : Path) → old ≡ p ∷ rest → h ≡ with_one p g → (is_among q rest || h q) ≡ (is_among q old || g q)

@@ -16,7 +16,7 @@ use Rattle.commuting_parts.specs.declared.parts.Parts.{Parts}
 use Rattle.commuting_parts.specs.declared.splitting.Split.{Split}
 use Rattle.commuting_parts.specs.Runs.{Run, thens, SameFrom, SwapFrom, LeadsTo}
 use Rattle.commuting_parts.specs.Prints.{TreeWith, CommuteWith, IsClearIn, AreApartIn}
-use Rattle.commuting_parts.specs.Parts.{runs, part, marked, unmarked, IsApartFrom}
+use Rattle.commuting_parts.specs.Parts.{runs, part, chosen_by, unmarked, IsApartFrom}
 use Rattle.commuting_parts.specs.Splits.{ArePartsOf, WhereMarked, AreAhead, AreOrderedParts, IsSplit, AreApartFrom, IsOrdered, AreOwnApart, AreSplitsApart}
 use Rattle.commuting_parts.proofs.CommuteLaws.{leads_on, reworded, to_front}
 use Rattle.commuting_parts.proofs.PartLaws.{runs_append, then_one, then_some, proper_front, apart_parts, steps_keep, steps_swap}
@@ -73,35 +73,35 @@ module _ (commute : (folders : BTreeSet Path) (e f : model.Program) → IsProper
   half_is : (es : List Program) (p : Parts) → ArePartsOf es p → IsProper (part p.shared) → AreApartFrom folders (footprint (part p.shared)) p.own
       → SameFrom P (runs es) (thens (runs p.own) (runs p.shared))
   half_is es p (marks, own, shared) proper all =
-      let whole : SameFrom P (runs es) (thens (runs (unmarked marks 0 es)) (runs (marked marks 0 es))) =
+      let whole : SameFrom P (runs es) (thens (runs (unmarked marks 0 es)) (runs (chosen_by marks 0 es))) =
       apart_parts commute keeps folders marks es (subst (λ xs. IsProper (part xs)) shared proper)
       (subst₂ (λ xs ys. AreApartFrom folders (footprint (part xs)) ys) shared own all) in
       subst₂ (λ xs ys. SameFrom P (runs es) (thens (runs xs) (runs ys))) (sym own) (sym shared) whole
 
   -- the own steps of a list go ahead of the shared ones before them
   abbrev GoAhead : (ℕ → Bool) → ℕ → List Program → Type 0
-  GoAhead marks i es = (front : List Program) → AreAhead folders marks i front es → AreProperSteps (programs_in (front ++ marked marks i es))
-      → SameFrom P (thens (runs front) (runs es)) (thens (runs (unmarked marks i es)) (runs (front ++ marked marks i es)))
+  GoAhead marks i es = (front : List Program) → AreAhead folders marks i front es → AreProperSteps (programs_in (front ++ chosen_by marks i es))
+      → SameFrom P (thens (runs front) (runs es)) (thens (runs (unmarked marks i es)) (runs (front ++ chosen_by marks i es)))
 
   -- where they do so in what follows a step, they do so in the list with that step
   next_ahead : (b : Bool) (marks : ℕ → Bool) (i : ℕ) (e : Program) (es : List Program) → GoAhead marks (suc i) es → (front : List Program)
       → WhereMarked b (AreAhead folders marks (suc i) (front ++ e ∷ []) es) (IsApartFrom folders (footprint (part front)) (program_of e) × AreAhead folders marks (suc i) front es)
-      → AreProperSteps (programs_in (front ++ cond b (e ∷ marked marks (suc i) es) (marked marks (suc i) es)))
-      → SameFrom P (thens (runs front) (runs (e ∷ es))) (thens (runs (cond b (unmarked marks (suc i) es) (e ∷ unmarked marks (suc i) es))) (runs (front ++ cond b (e ∷ marked marks (suc i) es) (marked marks (suc i) es))))
+      → AreProperSteps (programs_in (front ++ cond b (e ∷ chosen_by marks (suc i) es) (chosen_by marks (suc i) es)))
+      → SameFrom P (thens (runs front) (runs (e ∷ es))) (thens (runs (cond b (unmarked marks (suc i) es) (e ∷ unmarked marks (suc i) es))) (runs (front ++ cond b (e ∷ chosen_by marks (suc i) es) (chosen_by marks (suc i) es))))
   next_ahead true marks i e es ahead front are proper t good =
-      let longer : (front ++ e ∷ []) ++ marked marks (suc i) es ≡ front ++ e ∷ marked marks (suc i) es = append_assoc front (e ∷ []) (marked marks (suc i) es) in
+      let longer : (front ++ e ∷ []) ++ chosen_by marks (suc i) es ≡ front ++ e ∷ chosen_by marks (suc i) es = append_assoc front (e ∷ []) (chosen_by marks (suc i) es) in
       sym (and_then_assoc (runs front t) (run (program_of e)) (runs es))
       ∙ ap (λ r. and_then r (runs es)) (then_alike (runs front t) (run (program_of e)) (runs (e ∷ [])) (λ u k. sym (then_one e u)) ∙ sym (runs_append front (e ∷ []) t))
       ∙ ahead (front ++ e ∷ []) are (subst (λ xs. AreProperSteps (programs_in xs)) (sym longer) proper) t good
       ∙ ap (λ xs. thens (runs (unmarked marks (suc i) es)) (runs xs) t) longer
   next_ahead false marks i e es ahead front are proper t good =
-      let swap = commute folders (program_of e) (part front) are.0.0 (proper_front front (marked marks (suc i) es) proper) are.0.1 t good in
+      let swap = commute folders (program_of e) (part front) are.0.0 (proper_front front (chosen_by marks (suc i) es) proper) are.0.1 t good in
       sym (and_then_assoc (runs front t) (run (program_of e)) (runs es))
       ∙ ap (λ r. and_then r (runs es)) (sym swap)
       ∙ and_then_assoc (run (program_of e) t) (runs front) (runs es)
-      ∙ then_alike (run (program_of e) t) (thens (runs front) (runs es)) (thens (runs (unmarked marks (suc i) es)) (runs (front ++ marked marks (suc i) es))) (λ u k.
+      ∙ then_alike (run (program_of e) t) (thens (runs front) (runs es)) (thens (runs (unmarked marks (suc i) es)) (runs (front ++ chosen_by marks (suc i) es))) (λ u k.
       ahead front are.1 proper u (keeps folders (program_of e) (footprint (part front)) are.0.0 are.0.1.left t u good k))
-      ∙ sym (and_then_assoc (run (program_of e) t) (runs (unmarked marks (suc i) es)) (runs (front ++ marked marks (suc i) es)))
+      ∙ sym (and_then_assoc (run (program_of e) t) (runs (unmarked marks (suc i) es)) (runs (front ++ chosen_by marks (suc i) es)))
 
   -- they do so in each list
   go_ahead : (marks : ℕ → Bool) (i : ℕ) (es : List Program) → GoAhead marks i es

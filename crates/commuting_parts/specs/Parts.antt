@@ -18,9 +18,9 @@ abbrev pub runs : List Program → Run
 runs es = model.run_all (programs_in es)
 
 -- the steps at marked places, where the first of these has this place
-abbrev pub marked : (ℕ → Bool) → ℕ → List Program → List Program
-marked marks i [] = []
-marked marks i (e ∷ es) = if marks i then e ∷ marked marks (suc i) es else marked marks (suc i) es
+abbrev pub chosen_by : (ℕ → Bool) → ℕ → List Program → List Program
+chosen_by marks i [] = []
+chosen_by marks i (e ∷ es) = if marks i then e ∷ chosen_by marks (suc i) es else chosen_by marks (suc i) es
 
 -- the others
 abbrev pub unmarked : (ℕ → Bool) → ℕ → List Program → List Program

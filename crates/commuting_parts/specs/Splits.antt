@@ -11,12 +11,12 @@ use Rattle.effect_sets.specs.Members.{members}
 use Rattle.commuting_parts.specs.declared.parts.Parts.{Parts}
 use Rattle.commuting_parts.specs.declared.splitting.Split.{Split}
 use Rattle.commuting_parts.specs.Prints.{IsClearIn}
-use Rattle.commuting_parts.specs.Parts.{part, marked, unmarked, IsApartFrom}
+use Rattle.commuting_parts.specs.Parts.{part, chosen_by, unmarked, IsApartFrom}
 use Rattle.commuting_parts.specs.Sweeps.{AreSwept}
 
 -- the marked steps of the list, and the others
 abbrev pub ArePartsOf : List Program → Parts → Type 0
-ArePartsOf es p = (marks : ℕ → Bool) × (p.own ≡ unmarked marks 0 es) × (p.shared ≡ marked marks 0 es)
+ArePartsOf es p = (marks : ℕ → Bool) × (p.own ≡ unmarked marks 0 es) × (p.shared ≡ chosen_by marks 0 es)
 
 -- the first where the step is marked, else the second
 abbrev pub WhereMarked : Bool → Type 0 → Type 0 → Type 0
@@ -31,7 +31,7 @@ AreAhead folders marks i front (e ∷ es) = WhereMarked (marks i) (AreAhead fold
 
 -- the parts of a list whose own steps may go ahead of the shared ones
 abbrev pub AreOrderedParts : BTreeSet Path → List Program → Parts → Type 0
-AreOrderedParts folders es p = (marks : ℕ → Bool) × (p.own ≡ unmarked marks 0 es) × (p.shared ≡ marked marks 0 es)
+AreOrderedParts folders es p = (marks : ℕ → Bool) × (p.own ≡ unmarked marks 0 es) × (p.shared ≡ chosen_by marks 0 es)
     × AreAhead folders marks 0 [] es
 
 -- The parts of the list's two halves.

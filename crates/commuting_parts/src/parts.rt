@@ -6,7 +6,7 @@ ghost use Rattle.fs_lang.specs.Meaning.{program_of};
 ghost use Rattle.effect_sets.specs.Members.{members, sets_of};
 ghost use Rattle.commuting_parts.specs.Runs.{SwapFrom};
 ghost use Rattle.commuting_parts.specs.Prints.{TreeWith, AreApartIn};
-ghost use Rattle.commuting_parts.specs.Parts.{runs, marked, unmarked, IsApartFrom, AreParts};
+ghost use Rattle.commuting_parts.specs.Parts.{runs, chosen_by, unmarked, IsApartFrom, AreParts};
 
 use crate::apart::{are_apart, print_of};
 use crate::gathering::print_of_steps;
@@ -47,7 +47,7 @@ fn put(parts: &mut Parts, is_shared: bool, step: Program) -> Result<(), NoMemory
 /// The marked steps, and the others.
 pub(crate) fn parted(alloc: Global, steps: &[Program], marks: &[bool]) -> Result<Parts, NoMemory>
     ensures own { IfOk result (λ parts. parts.own ≡ unmarked (λ i. slice_index_or marks.now i false) 0 steps.now) }
-    ensures shared { IfOk result (λ parts. parts.shared ≡ marked (λ i. slice_index_or marks.now i false) 0 steps.now) }
+    ensures shared { IfOk result (λ parts. parts.shared ≡ chosen_by (λ i. slice_index_or marks.now i false) 0 steps.now) }
 {
     let mut parts = Parts {
         own: Seq::new(alloc),

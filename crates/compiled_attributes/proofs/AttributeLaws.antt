@@ -13,13 +13,10 @@ use Rattle.pp_value.specs.declared.value.Value.{Value}
 use Rattle.pp_value.specs.Values.{Pair, value_at, HasDistinctKeys}
 use Rattle.compiled_text.specs.declared.catalog.CompiledResource.{CompiledResource}
 use Rattle.compiled_attributes.specs.Attributes.{byte_cmp, reading_of, value_read, added_to, with_attribute, with_all, with_added, attributes_of, added_value, attribute_of}
-
--- names that are told to be equal are
-same : (a b : List ℕ) → bytes_eq a b ≡ true → a ≡ b
-same a b h = (bytes_eq-Decides a b).0 h
+use Rattle.pp_value.proofs.Distinct.{same_key}
 
 -- and equal names are told to be
-is_same : (a b : List ℕ) → a ≡ b → bytes_eq a b ≡ true
+pub is_same : (a b : List ℕ) → a ≡ b → bytes_eq a b ≡ true
 is_same a b h = (bytes_eq-Decides a b).1 h
 
 -- ---- one more attribute
@@ -42,12 +39,12 @@ got_at : (o : Ordering) (k : List ℕ) (v : Value) (e : Pair) (es : List Pair) (
     → value_at name (match_ordering o ((k, v) ∷ e ∷ es) ((e.0, v) ∷ es) (e ∷ insert_entry byte_cmp es k v)) ≡ cond (bytes_eq k name) (Some v) (value_at name (e ∷ es))
 got_at Less k v e es name h later = refl
 got_at Equal k v e es name h later =
-    let key : k ≡ e.0 = same k e.0 (sym (is_eq-slice_cmp k e.0) ∙ ap is_eq h) in
+    let key : k ≡ e.0 = same_key k e.0 (sym (is_eq-slice_cmp k e.0) ∙ ap is_eq h) in
     twice (bytes_eq e.0 name) v e.1 (value_at name es) ∙ ap (λ y. cond (bytes_eq y name) (Some v) (value_at name (e ∷ es))) (sym key)
 got_at Greater k v e es name h later =
     ap (λ r. cond (bytes_eq e.0 name) (Some e.1) r) later
     ∙ apart (bytes_eq e.0 name) (bytes_eq k name) v e.1 (value_at name es)
-    (λ first second. true≢false (sym (is_same k e.0 (same k name second ∙ sym (same e.0 name first))) ∙ (sym (is_eq-slice_cmp k e.0) ∙ ap is_eq h)))
+    (λ first second. true≢false (sym (is_same k e.0 (same_key k name second ∙ sym (same_key e.0 name first))) ∙ (sym (is_eq-slice_cmp k e.0) ∙ ap is_eq h)))
 
 -- an attribute that is put in order is found, and others as before
 got : (k : List ℕ) (v : Value) (es : List Pair) (name : List ℕ) → value_at name (insert_entry byte_cmp es k v) ≡ cond (bytes_eq k name) (Some v) (value_at name es)
@@ -80,7 +77,7 @@ read_at : (t : Bool) (becomes : Becomes) (p : Pair) (ps es : List Pair) (name : 
     → option_or (option_and_then (becomes name) (value_at name ps)) (value_at name (with_attribute es p.0 (becomes p.0 p.1)))
     ≡ option_or (option_and_then (becomes name) (cond t (Some p.1) (value_at name ps))) (value_at name es)
 read_at true becomes p ps es name h free =
-    let key : p.0 ≡ name = same p.0 name h in
+    let key : p.0 ≡ name = same_key p.0 name h in
     subst (λ k. option_or (option_and_then (becomes k) (value_at k ps)) (value_at k (with_attribute es p.0 (becomes p.0 p.1))) ≡ option_or (becomes k p.1) (value_at k es)) key
     (ap (λ r. option_or (option_and_then (becomes p.0) r) (value_at p.0 (with_attribute es p.0 (becomes p.0 p.1)))) free ∙ named (becomes p.0 p.1) p.0 es)
 read_at false becomes p ps es name h free =

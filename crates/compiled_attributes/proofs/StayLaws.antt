@@ -3,7 +3,6 @@ use Rattle.std.proofs.Common.{◌≡◌, ℕ, Bool, true, false, true≢false, c
 use Rattle.std.specs.Prelude.{option_and_then, option_map}
 use Rattle.std.specs.Option.{option_or}
 use Rattle.std.specs.Str.{bytes_eq}
-use Rattle.std.proofs.lemmas.Slice.Eq.{bytes_eq-Decides}
 use Rattle.pp_value.specs.declared.value.Value.{Value}
 use Rattle.pp_value.specs.Values.{Pair, value_at, HasDistinctKeys, has_opaque}
 use Rattle.catalog_semantics.specs.Attributes.{is_one_of, is_metaparameter}
@@ -18,13 +17,11 @@ use Rattle.compiled_attributes.specs.Rows.{left_out_of_all, has_to_be_known, lef
 use Rattle.compiled_attributes.specs.Given.{is_true, gives, are_addresses}
 use Rattle.compiled_attributes.specs.Attributes.{reading_of, value_read, added_to, added_value, attributes_of, IsItself, IsPlain}
 use Rattle.compiled_attributes.proofs.AttributeLaws.{each}
+use Rattle.std.proofs.lemmas.Bool.{or_parts}
+use Rattle.pp_value.proofs.Distinct.{other_way}
+use Rattle.std.proofs.lemmas.Option.{none-some}
 
 -- ---- tests
-
--- where a disjunction is false both sides are
-neither : (a b : Bool) → (a || b) ≡ false → (a ≡ false) × (b ≡ false)
-neither true b h = absurd (true≢false h)
-neither false b h = (refl, h)
 
 -- a choice of which the test fails is its second side
 skip : {X : Type 0} (t : Bool) (x y : X) → t ≡ false → cond t x y ≡ y
@@ -35,14 +32,6 @@ skip false x y h = refl
 skip_both : {X : Type 0} (s t : Bool) (x y : X) → s ≡ false → cond (s && t) x y ≡ y
 skip_both true t x y h = absurd (true≢false h)
 skip_both false t x y h = refl
-
--- names that differ do so the other way round
-other : (a b : List ℕ) → bytes_eq a b ≡ false → bytes_eq b a ≡ false
-other a b h = at (bytes_eq b a) refl
-  where
-    at : (t : Bool) → bytes_eq b a ≡ t → t ≡ false
-    at true same = sym ((bytes_eq-Decides a b).1 (sym ((bytes_eq-Decides b a).0 same))) ∙ h
-    at false same = refl
 
 -- ---- a file's attribute of which no row tells
 
@@ -62,16 +51,16 @@ record IsUnlisted (name : List ℕ) : Type 0 where
 -- a name that is none of the rows differs from each
 unlisted : (name : List ℕ) → is_one_of file_rows name ≡ false → IsUnlisted name
 unlisted name h =
-    let a = neither _ _ h in
-    let b = neither _ _ a.1 in
-    let c = neither _ _ b.1 in
-    let d = neither _ _ c.1 in
-    let e = neither _ _ d.1 in
-    let f = neither _ _ e.1 in
-    let g = neither _ _ f.1 in
-    let i = neither _ _ g.1 in
-    let j = neither _ _ i.1 in
-    let k = neither _ _ j.1 in
+    let a = or_parts _ _ h in
+    let b = or_parts _ _ a.1 in
+    let c = or_parts _ _ b.1 in
+    let d = or_parts _ _ c.1 in
+    let e = or_parts _ _ d.1 in
+    let f = or_parts _ _ e.1 in
+    let g = or_parts _ _ f.1 in
+    let i = or_parts _ _ g.1 in
+    let j = or_parts _ _ i.1 in
+    let k = or_parts _ _ j.1 in
     record { recurse = a.0; purge = b.0; force = c.0; replace = d.0; ignore = e.0; checksum = f.0; selinux = g.0; ensure = i.0; source = j.0; target = k.0 }
 
 -- it isn't left out of a file
@@ -119,7 +108,7 @@ target_only false name o h = refl
 -- nothing is added under such a name
 nothing_added : (resources : List CompiledResource) (r : CompiledResource) (k : Option Kind) (name : List ℕ) → IsUnlisted name → added_value name (added_to resources r (reading.Native k)) ≡ None
 nothing_added resources r None name u = refl
-nothing_added resources r (Some kind.File) name u = target_only (is_short_link r.parameters) name (value_at (codes "ensure") r.parameters) (other name (codes "target") u.target)
+nothing_added resources r (Some kind.File) name u = target_only (is_short_link r.parameters) name (value_at (codes "ensure") r.parameters) (other_way name (codes "target") u.target)
 nothing_added resources r (Some kind.Package) name u = refl
 nothing_added resources r (Some kind.User) name u = refl
 nothing_added resources r (Some kind.Group) name u = refl
@@ -151,20 +140,16 @@ stays resources r itself distinct name x plain =
 
 -- ---- what can't be told
 
--- nothing isn't something
-no_value : {X : Type 0} (x : X) → None ≡ Some x → ⊥
-no_value x h = cc
-
 -- an opaque value that is kept has to be known
 told_at : (left o m : Bool) (y x : Value) → (y ≡ x → o ≡ true) → cond left None (cond (o && not (m || false)) None (Some y)) ≡ Some x → m ≡ true
-told_at true o m y x h is = absurd (no_value x is)
+told_at true o m y x h is = absurd (none-some x is)
 told_at false true true y x h is = refl
-told_at false true false y x h is = absurd (no_value x is)
+told_at false true false y x h is = absurd (none-some x is)
 told_at false false m y x h is = let same : y ≡ x = cc in absurd (true≢false (sym (h same)))
 
 -- of a type without a model it is that of a relation
 told_in : (v : Option Value) (ps : List Pair) (name : List ℕ) (x : Value) → has_opaque x ≡ true → option_and_then (native_value None ps name) v ≡ Some x → is_metaparameter name ≡ true
-told_in None ps name x h is = absurd (no_value x is)
+told_in None ps name x h is = absurd (none-some x is)
 told_in (Some y) ps name x h is = told_at (left_out_of_all name y) (has_opaque y) (is_metaparameter name) y x (λ same. ap has_opaque same ∙ h) is
 
 -- a resource without a model has opaque values in its relations alone

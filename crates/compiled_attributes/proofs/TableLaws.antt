@@ -2,21 +2,14 @@
 use Rattle.std.proofs.Common.{◌≡◌, ℕ, ◌+◌, Bool, true, false, true≢false, cond, List, [], ◌∷◌, ◌++◌, Option, Some, refl, ap, sym, ◌∙◌, append-nil}
 use Rattle.std.specs.Map.{lookup}
 use Rattle.std.specs.Str.{bytes_eq}
-use Rattle.std.proofs.lemmas.Slice.Eq.{bytes_eq-Decides}
 use Rattle.indexmap.specs.IndexMap.{insert_entry}
 use Rattle.compiled_attributes.specs.Places.{or_none, places_in, if_target}
+use Rattle.pp_value.proofs.Distinct.{same_key}
+use Rattle.compiled_attributes.proofs.AttributeLaws.{is_same}
 
 -- targets, each with its places
 abbrev Table : Type 0
 Table = List (List ℕ × List ℕ)
-
--- targets that are told to be equal are
-same : (a b : List ℕ) → bytes_eq a b ≡ true → a ≡ b
-same a b h = (bytes_eq-Decides a b).0 h
-
--- and equal targets are told to be
-is_same : (a b : List ℕ) → a ≡ b → bytes_eq a b ≡ true
-is_same a b h = (bytes_eq-Decides a b).1 h
 
 -- ---- one more entry
 
@@ -37,13 +30,13 @@ got_at : (t : Bool) (x k v : List ℕ) (e : List ℕ × List ℕ) (es : Table) �
     → lookup (bytes_eq x) (insert_entry bytes_eq es k v) ≡ cond (bytes_eq x k) (Some v) (lookup (bytes_eq x) es)
     → lookup (bytes_eq x) (cond t ((e.0, v) ∷ es) (e ∷ insert_entry bytes_eq es k v)) ≡ cond (bytes_eq x k) (Some v) (cond (bytes_eq x e.0) (Some e.1) (lookup (bytes_eq x) es))
 got_at true x k v e es h later =
-    let key : e.0 ≡ k = sym (same k e.0 h) in
+    let key : e.0 ≡ k = sym (same_key k e.0 h) in
     ap (λ y. cond (bytes_eq x y) (Some v) (lookup (bytes_eq x) es)) key
     ∙ (twice (bytes_eq x k) v e.1 (lookup (bytes_eq x) es) ∙ ap (λ y. cond (bytes_eq x k) (Some v) (cond (bytes_eq x y) (Some e.1) (lookup (bytes_eq x) es))) (sym key))
 got_at false x k v e es h later =
     ap (λ r. cond (bytes_eq x e.0) (Some e.1) r) later
     ∙ apart (bytes_eq x e.0) (bytes_eq x k) v e.1 (lookup (bytes_eq x) es)
-    (λ first second. true≢false (sym (is_same k e.0 (sym (same x k second) ∙ same x e.0 first)) ∙ h))
+    (λ first second. true≢false (sym (is_same k e.0 (sym (same_key x k second) ∙ same_key x e.0 first)) ∙ h))
 
 -- a row that is put is found, and others as before
 got : (es : Table) (k v x : List ℕ) → lookup (bytes_eq x) (insert_entry bytes_eq es k v) ≡ cond (bytes_eq x k) (Some v) (lookup (bytes_eq x) es)
@@ -64,6 +57,4 @@ pub noted : (old mid last : Table) (k new mine : List ℕ) (n : ℕ) → mid ≡
 noted old mid last k new mine n first second was is x =
     ap (λ (t : Table). places_in t x) second
     ∙ (ap or_none (got mid k new x ∙ ap (λ r. cond (bytes_eq x k) (Some new) r) (ap (lookup (bytes_eq x)) first ∙ got old k [] x))
-    ∙ if_same (bytes_eq x k) x k new mine (lookup (bytes_eq x) old) n (λ h. was ∙ ap (λ y. or_none (lookup (bytes_eq y) old)) (sym (same x k h))) is)
-
--- ---- all places
+    ∙ if_same (bytes_eq x k) x k new mine (lookup (bytes_eq x) old) n (λ h. was ∙ ap (λ y. or_none (lookup (bytes_eq y) old)) (sym (same_key x k h))) is)

@@ -16,7 +16,7 @@ use Rattle.catalog_text.specs.Json.{json}
 use Rattle.compiled_text.specs.declared.catalog.CompiledResource.{CompiledResource}
 use Rattle.compiled_text.specs.Compiled.{is_concat_file, counts_as}
 use Rattle.model_semantics.specs.Names.{text_at}
-use Rattle.compiled_attributes.specs.Given.{given, gives, says, is_untold}
+use Rattle.compiled_attributes.specs.Given.{given_value, gives, says, is_untold}
 
 -- ---- which fragments a file gathers
 
@@ -59,7 +59,7 @@ order_given (Some x) = order_text x
 
 -- the order of a fragment
 abbrev pub order_of : CompiledResource → Option (List ℕ)
-order_of r = order_given (given (codes "order") r.parameters)
+order_of r = order_given (given_value (codes "order") r.parameters)
 
 -- the attribute for which a fragment can't be put into a file
 abbrev pub misfit_of : CompiledResource → Option (List ℕ)

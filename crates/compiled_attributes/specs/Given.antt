@@ -15,12 +15,12 @@ unless_undef None = None
 unless_undef (Some x) = if is_undef x then None else Some x
 
 -- the value that is given for an attribute
-abbrev pub given : List ℕ → List Pair → Option Value
-given name ps = unless_undef (value_at name ps)
+abbrev pub given_value : List ℕ → List Pair → Option Value
+given_value name ps = unless_undef (value_at name ps)
 
 -- the attribute is given
 abbrev pub gives : List ℕ → List Pair → Bool
-gives name ps = is_some (given name ps)
+gives name ps = is_some (given_value name ps)
 
 -- ---- what their values are
 

@@ -4,7 +4,7 @@ ghost use Rattle.std.specs.Prelude.{◌≡◌, option_map};
 ghost use Rattle.std.specs.List.{list_all};
 ghost use Rattle.pp_value.specs.Values.{is_undef, on_text};
 ghost use Rattle.model_semantics.specs.Attributes.{is_false, is_address};
-ghost use Rattle.compiled_attributes.specs.Given.{given, gives, is_so, is_true, is_untrue, says, says_from, is_untold, are_some_addresses, are_addresses};
+ghost use Rattle.compiled_attributes.specs.Given.{given_value, gives, is_so, is_true, is_untrue, says, says_from, is_untold, are_some_addresses, are_addresses};
 
 use model_attributes::{begins, truth_of};
 use pp_value::{Pairs, Value, has_opaque};
@@ -18,7 +18,7 @@ pub fn is_undef(x: &Value) -> bool
 
 /// The value that is given for an attribute; undef counts as not given.
 pub fn given<'p>(ps: &'p Pairs, name: &str) -> Option<&'p Value>
-    ensures { option_map (λ x. x.now) result ≡ given name.now ps.now }
+    ensures { option_map (λ x. x.now) result ≡ given_value name.now ps.now }
 {
     let x = ps.find(name)?;
     if is_undef(x) {

@@ -1,6 +1,6 @@
 //! Which attributes of the text are left out, and what becomes of the others.
 
-ghost use Rattle.std.specs.Prelude.{◌≡◌, ◌++◌, codes, map, IfOk};
+ghost use Rattle.std.specs.Prelude.{◌≡◌, ◌++◌, codes, IfOk};
 ghost use Rattle.pp_value.specs.declared.value.Value.TheVariants as v;
 ghost use Rattle.catalog_semantics.specs.Attributes.{is_one_of};
 ghost use Rattle.catalog_text.specs.Json.{json};
@@ -10,23 +10,11 @@ use crate::given::{are_addresses, gives, is_true, is_undef, is_untrue, says, say
 use catalog_semantics::is_metaparameter;
 use catalog_text::json_text;
 use json_parts::text_of;
-use model_attributes::truth_of;
+use model_attributes::{is_one_of, truth_of};
 use model_semantics::Kind;
 use pp_value::{Pairs, Value, has_opaque};
 use rh_base::NoMemory;
 use std::alloc::Global;
-
-/// Whether a name is one of these.
-fn is_one_of(names: &[&str], name: &str) -> bool
-    ensures { result ≡ is_one_of (map (λ s. s.now) names.now) name.now }
-{
-    for one in names {
-        if name == *one {
-            return true;
-        }
-    }
-    false
-}
 
 // every type
 

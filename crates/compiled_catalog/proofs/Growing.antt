@@ -25,6 +25,8 @@ use Rattle.compiled_text.proofs.RefLaws.{differs}
 use Rattle.compiled_catalog.specs.Attributes.{settled_attributes}
 use Rattle.compiled_catalog.specs.Catalogs.{resource_at, with_one, with_all}
 use Rattle.compiled_catalog.specs.Steps.{catalog_with, HasFirst}
+use Rattle.catalog.proofs.RefLaws.{count_is}
+use Rattle.catalog_semantics.proofs.Once.{refs_more}
 
 -- ---- places
 
@@ -52,16 +54,6 @@ one_less rs i r h = drop_more rs i r (slice_get_within rs i r h) ∙ ap (λ x. x
 mapped_last : (f : CompiledResource → Ref) (rs : List CompiledResource) (r : CompiledResource) → map f (rs ++ r ∷ []) ≡ map f rs ++ f r ∷ []
 mapped_last f [] r = refl
 mapped_last f (x ∷ rs) r = ap (λ qs. f x ∷ qs) (mapped_last f rs r)
-
--- one more resource is one more reference
-named_last : (rs : List Resource) (r : Resource) → references_of (rs ++ r ∷ []) ≡ references_of rs ++ r.id ∷ []
-named_last [] r = refl
-named_last (x ∷ rs) r = ap (λ qs. x.id ∷ qs) (named_last rs r)
-
--- there are as many references as resources
-count_is : (rs : List Resource) → length (references_of rs) ≡ length rs
-count_is [] = refl
-count_is (r ∷ rs) = ap suc (count_is rs)
 
 -- and as many images as items
 mapped_count : (f : CompiledResource → Ref) (rs : List CompiledResource) → length (map f rs) ≡ length rs
@@ -138,7 +130,7 @@ module _ (limits : Limits) (c : Compiled) (n : ℕ) (k : Catalog) (r : CompiledR
 
       names : references_of more ≡ map counts_as (take (n + 1) c.resources)
       names =
-          named_last k.resources (resource_at c n r attributes)
+          refs_more k.resources (resource_at c n r attributes)
           ∙ (ap (λ qs. qs ++ counts_as r ∷ []) first.references ∙ (sym (mapped_last counts_as (take n c.resources) r) ∙ ap (map counts_as) (sym (one_more c.resources n r there))))
 
       at : (t : Bool) → catalog_with (cond t (Err (refusal 32 0 (codes "attributes"))) (Ok more)) ≡ Ok new → HasFirst c (n + 1) new

@@ -26,6 +26,7 @@ use Rattle.compiled_relations.specs.Values.{are_references, related_to}
 use Rattle.compiled_relations.specs.Related.{IsRelation}
 use Rattle.compiled_catalog.specs.Attributes.{none_is, is_large, is_unknown, with_related, settled, settled_attributes}
 use Rattle.compiled_catalog.specs.Catalogs.{few_declared, few_native, resource_at, with_one, with_all, catalog_of}
+use Rattle.catalog_semantics.proofs.Once.{refs_more}
 
 -- equal results are equal
 one_ok : {X : Type 0} (x y : X) → ◌≡◌ {A = Result X Refusal} (Ok x) (Ok y) → x ≡ y
@@ -67,11 +68,6 @@ module _ (c : Compiled) (P : Resource → Type 0) (each : (place : ℕ) (r : Com
 
 -- ---- each reference stands once
 
--- one more resource is one more reference
-named_last : (rs : List Resource) (r : Resource) → references_of (rs ++ r ∷ []) ≡ references_of rs ++ r.id ∷ []
-named_last [] r = refl
-named_last (x ∷ rs) r = ap (λ qs. x.id ∷ qs) (named_last rs r)
-
 -- the references of the catalog are those as which resources count
 all_named : (c : Compiled) (rs : List CompiledResource) (before all : List Resource) → with_all c before rs ≡ Ok all → references_of all ≡ references_of before ++ map counts_as rs
 all_named c [] before all h = ap references_of (sym (one_ok before all h)) ∙ sym (append_nil (references_of before))
@@ -84,7 +80,7 @@ all_named c (r ∷ rs) before all h =
     let y = one_added c before x.0 r x.1 in
     all_named c rs x.0 all x.2
     ∙ (ap (λ (more : List Resource). references_of more ++ map counts_as rs) y.2
-    ∙ (ap (λ qs. qs ++ map counts_as rs) (named_last before (resource_at c (length before) r y.0)) ∙ append_assoc (references_of before) (counts_as r ∷ []) (map counts_as rs)))
+    ∙ (ap (λ qs. qs ++ map counts_as rs) (refs_more before (resource_at c (length before) r y.0)) ∙ append_assoc (references_of before) (counts_as r ∷ []) (map counts_as rs)))
 
 -- none of the references is one of those before
 abbrev AreOthers : List Ref → List Ref → Type 0

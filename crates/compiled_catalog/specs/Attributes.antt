@@ -9,14 +9,14 @@ use Rattle.catalog_semantics.specs.Attributes.{is_metaparameter, metaparameters}
 use Rattle.compiled_text.specs.declared.catalog.CompiledResource.{CompiledResource}
 use Rattle.compiled_text.specs.Compiled.{counts_as}
 use Rattle.compiled_attributes.specs.Attributes.{attributes_of}
-use Rattle.compiled_relations.specs.Finding.{told}
+use Rattle.compiled_relations.specs.Finding.{name_and_line}
 use Rattle.compiled_relations.specs.Values.{are_references, related_to}
 
 -- ---- refusals of one attribute
 
 -- the reference of the resource, a blank and the attribute
 abbrev pub attribute_name : CompiledResource → List ℕ → List ℕ
-attribute_name r name = told r (shown_ref (counts_as r) ++ (codes " " ++ name))
+attribute_name r name = name_and_line r (shown_ref (counts_as r) ++ (codes " " ++ name))
 
 -- the refusal by the first attribute that passes the test, if one does
 abbrev pub none_is : (Pair → Bool) → ℕ → CompiledResource → List Pair → Result (Unit {0}) Refusal

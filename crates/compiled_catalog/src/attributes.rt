@@ -9,7 +9,7 @@ ghost use Rattle.compiled_catalog.specs.Attributes.{attribute_name, none_is, is_
 
 use catalog_semantics::is_metaparameter;
 use compiled_attributes::{Fragments, attributes_of};
-use compiled_relations::{Index, are_references, counts_as, related_to, told};
+use compiled_relations::{Index, are_references, counts_as, name_and_line, related_to};
 use compiled_text::{CompiledCatalog, CompiledResource};
 use pp_eval::refusal;
 use pp_value::{Pairs, Value, exceeds_limits, has_opaque, shown_ref};
@@ -30,7 +30,7 @@ fn attribute_name(alloc: Global, r: &CompiledResource, name: &str) -> Result<Tex
     let mut text = shown_ref(alloc, &id)?;
     text.push(" ")?;
     text.push(name)?;
-    told(alloc, r, text.as_str())
+    name_and_line(alloc, r, text.as_str())
 }
 
 /// The refusal of an attribute.

@@ -2,16 +2,4 @@
 #![tactic(auto)]
 
 #[cfg(test)]
-mod answers;
-#[cfg(test)]
-mod catalogs;
-#[cfg(test)]
-mod finding;
-#[cfg(test)]
-mod limits;
-#[cfg(test)]
-mod links;
-#[cfg(test)]
-mod refusals;
-#[cfg(test)]
-mod texts;
+mod tests;

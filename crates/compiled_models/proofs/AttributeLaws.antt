@@ -1,9 +1,10 @@
 -- The attributes but `replace`.
-use Rattle.std.proofs.Common.{◌≡◌, ℕ, Bool, true, false, cond, not, List, [], ◌∷◌, drop, length, ◌≤◌, zero, suc, Option, Some, None, bytes_eq, codes, refl, sym, ap, ◌∙◌, arith}
+use Rattle.std.proofs.Common.{◌≡◌, ℕ, Bool, true, false, cond, not, List, [], ◌∷◌, drop, length, ◌≤◌, Option, Some, None, bytes_eq, codes, refl, sym, ap, ◌∙◌}
 use Rattle.pp_value.specs.Keys.{value_at, with_pairs, HasDistinctKeys}
 use Rattle.pp_value.specs.Values.{Pair}
 use Rattle.pp_value.specs.declared.value.Value.{Value}
 use Rattle.compiled_models.specs.Files.{without_replace}
+use Rattle.assumed_models.proofs.NamedLaws.{past}
 
 -- a name that is missing is missing without `replace`
 still_free : (key : List ℕ) (attrs : List Pair) → value_at key attrs ≡ None → value_at key (without_replace attrs) ≡ None
@@ -27,13 +28,6 @@ still_distinct (p ∷ attrs) h = at (not (bytes_eq p.0 (codes "replace"))) (stil
     at : (s : Bool) → HasDistinctKeys (without_replace attrs) → HasDistinctKeys (cond s (p ∷ without_replace attrs) (without_replace attrs))
     at true more = (still_free p.0 attrs h.0, more)
     at false more = more
-
--- past the last nothing is left
-past : (attrs : List Pair) (i : ℕ) → length attrs ≤ i → drop i attrs ≡ []
-past [] zero h = refl
-past [] (suc i) h = refl
-past (p ∷ attrs) zero h = absurd (omega (arith, h))
-past (p ∷ attrs) (suc i) h = past attrs i (omega (arith, h))
 
 -- all attributes were taken, one after another
 pub all_taken : ((pairs : List Pair) → HasDistinctKeys pairs → with_pairs [] pairs ≡ pairs) → (rest attrs : List Pair) (i : ℕ) → length attrs ≤ i → HasDistinctKeys attrs

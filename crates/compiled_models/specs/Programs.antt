@@ -29,7 +29,7 @@ use Rattle.model_semantics.specs.Names.{◌>>=◌, text_at, is_true, truth_in}
 use Rattle.compiled_text.specs.declared.catalog.CompiledResource.{CompiledResource}
 use Rattle.compiled_attributes.specs.Fragments.{why_unfilled}
 use Rattle.compiled_attributes.specs.Attributes.{is_noop}
-use Rattle.compiled_relations.specs.Finding.{told}
+use Rattle.compiled_relations.specs.Finding.{name_and_line}
 use Rattle.assumed_text.specs.declared.assumed.Assumed.{Assumed}
 use Rattle.assumed_text.specs.declared.assumed.Assumed.TheVariants.{Nothing, Refused, Does}
 use Rattle.assumed_text.specs.declared.assumed.Assumption.{Assumption}
@@ -142,11 +142,11 @@ model_of s edits n = if_modelled (kind_of n.resource.id.kind) >>= model_of_kind 
 
 -- the name of a resource, with the line of the manifest that declares it
 abbrev pub name_told : Native → List ℕ
-name_told n = told n.text (shown_ref n.resource.id)
+name_told n = name_and_line n.text (shown_ref n.resource.id)
 
 -- the same of an attribute
 abbrev pub attribute_told : Native → List ℕ → List ℕ
-attribute_told n name = told n.text (shown_ref n.resource.id ++ (codes " " ++ name))
+attribute_told n name = name_and_line n.text (shown_ref n.resource.id ++ (codes " " ++ name))
 
 -- no model: what `exec` does can't be told, and other types aren't known
 abbrev pub unmodelled : Native → Refusal

@@ -7,7 +7,7 @@ ghost use Rattle.compiled_models.specs.Programs.{name_told, attribute_told, unmo
 ghost use Rattle.compiled_models.specs.Hosts.{native_of, IsFaultOf};
 
 use crate::natives::Native;
-use compiled_relations::told;
+use compiled_relations::name_and_line;
 use model_semantics::{Cause, ModelFault};
 use pp_eval::refusal;
 use pp_value::shown_ref;
@@ -19,7 +19,7 @@ fn name_told(alloc: Global, n: &Native<'_>) -> Result<Text, NoMemory>
     ensures { IfOk result (λ t. t ≡ name_told (native_of n.now)) }
 {
     let name = shown_ref(alloc, &n.resource.id)?;
-    told(alloc, n.text, name.as_str())
+    name_and_line(alloc, n.text, name.as_str())
 }
 
 /// The same with an attribute.
@@ -29,7 +29,7 @@ fn attribute_told(alloc: Global, n: &Native<'_>, attribute: &str) -> Result<Text
     let mut name = shown_ref(alloc, &n.resource.id)?;
     name.push(" ")?;
     name.push(attribute)?;
-    told(alloc, n.text, name.as_str())
+    name_and_line(alloc, n.text, name.as_str())
 }
 
 /// A refusal with the resource's name.

@@ -1,6 +1,6 @@
 //! The programs that resources have whatever their models are.
 
-ghost use Rattle.std.specs.Prelude.{◌≡◌, ◌||◌, map, codes, option_map};
+ghost use Rattle.std.specs.Prelude.{◌≡◌, ◌||◌, codes, option_map};
 ghost use Rattle.pp_value.specs.Values.{value_at};
 ghost use Rattle.catalog_semantics.specs.Attributes.{is_one_of};
 ghost use Rattle.model_semantics.specs.Names.{is_true, truth_in};
@@ -16,21 +16,9 @@ use assumed_text::Assumed;
 use catalog_semantics::Resource;
 use compiled_attributes::is_noop;
 use fs_lang::Program;
-use model_attributes::truth_of;
+use model_attributes::{is_one_of, truth_of};
 use model_semantics::ModelFault;
 use std::alloc::Global;
-
-/// Whether a name is one of these.
-fn is_one_of(names: &[&str], name: &str) -> bool
-    ensures { result ≡ is_one_of (map (λ s. s.now) names.now) name.now }
-{
-    for one in names {
-        if name == *one {
-            return true;
-        }
-    }
-    false
-}
 
 /// Whether a type only orders others, or says how others are to be applied.
 fn is_idle_type(kind: &str) -> bool

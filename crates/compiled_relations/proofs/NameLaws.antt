@@ -1,53 +1,39 @@
 -- Each resource is found by its type and title.
-use Rattle.std.proofs.Common.{◌≡◌, ◌≢◌, ℕ, zero, suc, ◌<◌, Bool, true, false, cond, ◌||◌, ◌&&◌, not, ◌⊎◌, inl, inr, List, [], ◌∷◌, slice_get, Option, Some, None, option_map, map, codes, refl, ap, ap₂, sym, ◌∙◌, arith}
-use Rattle.std.specs.List.{AllByRecursion}
+use Rattle.std.proofs.Common.{◌≡◌, ◌≢◌, ℕ, zero, suc, ◌<◌, Bool, true, false, cond, ◌||◌, ◌&&◌, not, ◌⊎◌, inl, inr, List, [], ◌∷◌, slice_get, Some, None, option_map, map, codes, refl, ap, ap₂, sym, ◌∙◌, arith}
 use Rattle.std.specs.Str.{bytes_eq}
 use Rattle.pp_value.specs.declared.value.Ref.{Ref}
 use Rattle.pp_value.specs.Values.{same_ref, value_at}
 use Rattle.compiled_text.specs.declared.catalog.CompiledResource.{CompiledResource}
 use Rattle.compiled_text.specs.Compiled.{Compiled, AreDistinct, IsSound, is_concat_file, counts_as, text_or}
-use Rattle.compiled_text.specs.Reading.{is_empty}
-use Rattle.compiled_text.proofs.RefLaws.{same_where, differs}
+use Rattle.compiled_text.proofs.RefLaws.{same_where, differs, other_at}
 use Rattle.compiled_relations.specs.Finding.{names_of, first_called, is_one, aliases_of, at_path, or_else, place_found}
-
--- equal things as found are equal
-one_some : {X : Type 0} (x y : X) → ◌≡◌ {A = Option X} (Some x) (Some y) → x ≡ y
-one_some x y h = cc
-
--- nothing isn't something
-nothing : {X : Type 0} (x : X) → ◌≡◌ {A = Option X} None (Some x) → ⊥
-nothing x h = cc
+use Rattle.std.proofs.lemmas.Option.{none-some, same_Some}
+use Rattle.compiled_text.proofs.BracketLaws.{empty_not}
 
 -- ---- the first that is called so
 
 -- the first resource that is called so is found at its place
 first_at : (calls : CompiledResource → List Ref) (ref : Ref) (rs : List CompiledResource) (place : ℕ) (r : CompiledResource) → slice_get rs place ≡ Some r → is_one ref (calls r) ≡ true
     → ((i : ℕ) (x : CompiledResource) → i < place → slice_get rs i ≡ Some x → is_one ref (calls x) ≡ false) → first_called calls ref rs ≡ Some place
-first_at calls ref [] place r h one none = absurd (nothing r h)
-first_at calls ref (x ∷ rs) zero r h one none = ap (λ t. cond t (Some 0) (option_map suc (first_called calls ref rs))) (ap (λ y. is_one ref (calls y)) (one_some x r h) ∙ one)
+first_at calls ref [] place r h one none = absurd (none-some r h)
+first_at calls ref (x ∷ rs) zero r h one none = ap (λ t. cond t (Some 0) (option_map suc (first_called calls ref rs))) (ap (λ y. is_one ref (calls y)) (same_Some x r h) ∙ one)
 first_at calls ref (x ∷ rs) (suc place) r h one none =
     ap (λ t. cond t (Some 0) (option_map suc (first_called calls ref rs))) (none 0 x (omega arith) refl)
     ∙ ap (option_map suc) (first_at calls ref rs place r h one (λ i y k at. none (suc i) y (omega arith) at))
 
 -- ---- references that differ
 
--- what stands among references that differ from one isn't that
-other_at : (q : Ref) (refs : List Ref) (place : ℕ) (r : Ref) → AllByRecursion (λ p. q ≢ p) refs → slice_get refs place ≡ Some r → q ≢ r
-other_at q [] place r h e = absurd (nothing r e)
-other_at q (p ∷ refs) zero r h e = λ k. h.0 (k ∙ sym (one_some p r e))
-other_at q (p ∷ refs) (suc place) r h e = other_at q refs place r h.1 e
-
 -- of references that differ two stand at two places
 apart_at : (refs : List Ref) (i j : ℕ) (a b : Ref) → AreDistinct refs → i < j → slice_get refs i ≡ Some a → slice_get refs j ≡ Some b → a ≢ b
-apart_at [] i j a b d k h e = absurd (nothing a h)
+apart_at [] i j a b d k h e = absurd (none-some a h)
 apart_at (p ∷ refs) i zero a b d k h e = absurd (omega (arith, k))
-apart_at (p ∷ refs) zero (suc j) a b d k h e = λ same. other_at p refs j b d.0 e (one_some p a h ∙ same)
+apart_at (p ∷ refs) zero (suc j) a b d k h e = λ same. other_at p refs j b d.0 e (same_Some p a h ∙ same)
 apart_at (p ∷ refs) (suc i) (suc j) a b d k h e = apart_at refs i j a b d.1 (omega arith) h e
 
 -- the image of what stands at a place stands there
 mapped_at : (f : CompiledResource → Ref) (rs : List CompiledResource) (i : ℕ) (r : CompiledResource) → slice_get rs i ≡ Some r → slice_get (map f rs) i ≡ Some (f r)
-mapped_at f [] i r h = absurd (nothing r h)
-mapped_at f (x ∷ rs) zero r h = ap (λ y. Some (f y)) (one_some x r h)
+mapped_at f [] i r h = absurd (none-some r h)
+mapped_at f (x ∷ rs) zero r h = ap (λ y. Some (f y)) (same_Some x r h)
 mapped_at f (x ∷ rs) (suc i) r h = mapped_at f rs i r h
 
 -- ---- what counts as a resource of this reference
@@ -83,15 +69,10 @@ earlier_differs c place i r x sound h k at =
     neither (same_ref r.id x.id) (same_ref r.id (counts_as x)) (differs r.id x.id (λ e. ids (sym e)))
     (differs r.id (counts_as x) (λ e. elim (counts_alike r x e) [ inl same ↦ ids (sym same) | inr same ↦ counted (sym same) ]))
 
--- a title that isn't empty is told to be one
-titled : (text : List ℕ) → text ≢ [] → is_empty text ≡ false
-titled [] h = absurd (h refl)
-titled (b ∷ text) h = refl
-
 -- each resource is found by its own reference
 pub found_by_name : (c : Compiled) (place : ℕ) (r : CompiledResource) → IsSound c → slice_get c.resources place ≡ Some r → r.id.title ≢ [] → place_found c.resources r.id ≡ Some place
 found_by_name c place r sound h some =
     let others = or_else (first_called aliases_of r.id c.resources) (at_path r.id c.resources) in
     let itself : is_one r.id (names_of r) ≡ true = ap (λ t. t || (same_ref r.id (counts_as r) || false)) ((same_where r.id r.id).1 refl) in
     let first = first_at names_of r.id c.resources place r h itself (λ i x k at. earlier_differs c place i r x sound h k at) in
-    ap (λ t. cond t None (or_else (first_called names_of r.id c.resources) others)) (titled r.id.title some) ∙ ap (λ o. or_else o others) first
+    ap (λ t. cond t None (or_else (first_called names_of r.id c.resources) others)) (empty_not r.id.title some) ∙ ap (λ o. or_else o others) first

@@ -16,21 +16,8 @@ use Rattle.compiled_relations.specs.Finding.{found_by, StandsIn}
 use Rattle.compiled_relations.specs.Values.{are_references, are_references_in, if_found, related_to, related_to_row}
 use Rattle.compiled_relations.specs.Related.{IsRelation}
 use Rattle.compiled_relations.proofs.FoundLaws.{found_stands}
-
--- ---- steps
-
--- equal results are equal
-one_ok : {X : Type 0} (x y : X) → ◌≡◌ {A = Result X Refusal} (Ok x) (Ok y) → x ≡ y
-one_ok x y h = cc
-
--- a refusal isn't a result
-no_ok : {X : Type 0} (e : Refusal) (y : X) → ◌≡◌ {A = Result X Refusal} (Err e) (Ok y) → ⊥
-no_ok e y h = cc
-
--- where a conjunction holds both sides do
-two_true : (a b : Bool) → (a && b) ≡ true → (a ≡ true) × (b ≡ true)
-two_true true b h = (refl, h)
-two_true false b h = absurd (true≢false (sym h))
+use Rattle.std.proofs.lemmas.Bool.{and_parts}
+use Rattle.graph_semantics.proofs.Basics.{ok_same, err_ok}
 
 -- ---- one value, and lists of them
 
@@ -42,8 +29,8 @@ within_list (x ∷ xs) = ap (λ rest. references_within x ++ rest) (within_list 
 
 -- what a text finds is a relation
 text_becomes : (all : List CompiledResource) (r : CompiledResource) (text : List ℕ) (o : Option Ref) → found_by all text ≡ o → (y : Value) → if_found r text o ≡ Ok y → IsRelation all y
-text_becomes all r text None e y h = absurd (no_ok _ y h)
-text_becomes all r text (Some ref) e y h = subst (IsRelation all) (one_ok (v.Refer ref) y h) (record { known = refl; references = refl; stand = (found_stands all text ref e, tt) })
+text_becomes all r text None e y h = absurd (err_ok _ y h)
+text_becomes all r text (Some ref) e y h = subst (IsRelation all) (ok_same (v.Refer ref) y h) (record { known = refl; references = refl; stand = (found_stands all text ref e, tt) })
 
 -- where the references of two lists stand, those of both do
 both_in : (all : List CompiledResource) (xs ys : List Ref) → AllByRecursion (StandsIn all) xs → AllByRecursion (StandsIn all) ys → AllByRecursion (StandsIn all) (xs ++ ys)
@@ -69,17 +56,17 @@ list_is all (x ∷ items) h =
 -- so is a list of what its members become
 list_becomes : (all : List CompiledResource) (found : Result (List Value) Refusal) (y : Value) → ((items : List Value) → found ≡ Ok items → AllByRecursion (IsRelation all) items)
     → (found >>= (λ items. Ok (v.List items))) ≡ Ok y → IsRelation all y
-list_becomes all (Ok items) y each h = subst (IsRelation all) (one_ok (v.List items) y h) (list_is all items (each items refl))
-list_becomes all (Err e) y each h = absurd (no_ok e y h)
+list_becomes all (Ok items) y each h = subst (IsRelation all) (ok_same (v.List items) y h) (list_is all items (each items refl))
+list_becomes all (Err e) y each h = absurd (err_ok e y h)
 
 -- what one more member becomes is a relation among the others
 one_more : (all : List CompiledResource) (undef refs : Bool) (found : Result Value Refusal) (more : Result (List Value) Refusal) (items : List Value) → ((y : Value) → found ≡ Ok y → refs ≡ true → IsRelation all y)
     → ((rest : List Value) → more ≡ Ok rest → AllByRecursion (IsRelation all) rest) → (undef || refs) ≡ true → cond undef more (found >>= (λ item. more >>= (λ rest. Ok (item ∷ rest)))) ≡ Ok items
     → AllByRecursion (IsRelation all) items
 one_more all true refs found more items one each h k = each items k
-one_more all false refs (Err e) more items one each h k = absurd (no_ok e items k)
-one_more all false refs (Ok item) (Err e) items one each h k = absurd (no_ok e items k)
-one_more all false refs (Ok item) (Ok rest) items one each h k = subst (AllByRecursion (IsRelation all)) (one_ok (item ∷ rest) items k) (one item refl h, each rest refl)
+one_more all false refs (Err e) more items one each h k = absurd (err_ok e items k)
+one_more all false refs (Ok item) (Err e) items one each h k = absurd (err_ok e items k)
+one_more all false refs (Ok item) (Ok rest) items one each h k = subst (AllByRecursion (IsRelation all)) (ok_same (item ∷ rest) items k) (one item refl h, each rest refl)
 
 mutual
   -- what references become is a relation
@@ -96,7 +83,7 @@ mutual
   -- so is what each member of a list becomes
   rows_become : {m : _} (all : List CompiledResource) (r : CompiledResource) (row : Row_of-Value m) (items : List Value) → related_to_row all r row ≡ Ok items → are_references_in row ≡ true
       → AllByRecursion (IsRelation all) items
-  rows_become all r end_of-Value items h k = subst (AllByRecursion (IsRelation all)) (one_ok [] items h) tt
+  rows_become all r end_of-Value items h k = subst (AllByRecursion (IsRelation all)) (ok_same [] items h) tt
   rows_become all r (more_of-Value x row) items h k =
-      let two = two_true (is_undef x || are_references x) (are_references_in row) k in
+      let two = and_parts (is_undef x || are_references x) (are_references_in row) k in
       one_more all (is_undef x) (are_references x) (related_to all r x) (related_to_row all r row) items (becomes all r x) (λ rest e. rows_become all r row rest e two.1) two.0 h

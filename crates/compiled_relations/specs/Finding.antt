@@ -124,5 +124,5 @@ place_told (Some file) None = []
 place_told (Some file) (Some n) = codes " (" ++ (file ++ (codes ":" ++ (signed_decimal n ++ codes ")")))
 
 -- a name that a refusal tells of a resource, and behind it the line of the manifest which declares that
-abbrev pub told : CompiledResource → List ℕ → List ℕ
-told r name = name ++ place_told r.file r.line
+abbrev pub name_and_line : CompiledResource → List ℕ → List ℕ
+name_and_line r name = name ++ place_told r.file r.line

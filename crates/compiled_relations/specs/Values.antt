@@ -8,7 +8,7 @@ use Rattle.pp_value.specs.Values.{is_undef}
 use Rattle.pp_eval.specs.Evaluating.{◌>>=◌, refusal}
 use Rattle.compiled_text.specs.declared.catalog.CompiledResource.{CompiledResource}
 use Rattle.compiled_text.specs.Reading.{reference_of}
-use Rattle.compiled_relations.specs.Finding.{found_by, told}
+use Rattle.compiled_relations.specs.Finding.{found_by, name_and_line}
 
 -- A text that is a reference, or a list of such values at any depth. In a list undef counts as not there.
 abbrev mutual
@@ -28,7 +28,7 @@ abbrev mutual
 
 -- what a text finds, or the refusal by the text as it is written
 abbrev pub if_found : CompiledResource → List ℕ → Option Ref → Result Value Refusal
-if_found r text None = Err (refusal 40 0 (told r text))
+if_found r text None = Err (refusal 40 0 (name_and_line r text))
 if_found r text (Some ref) = Ok (v.Refer ref)
 
 -- The value of a relation of this resource, with what each text finds among all resources, or the refusal of the first that finds

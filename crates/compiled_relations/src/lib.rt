@@ -16,5 +16,5 @@ pub use compiled_text::counts_as;
 pub use index::Index;
 pub use laws::{paths_are_written_alike, relations_are_references, resources_are_found};
 pub use links::add_links;
-pub use naming::told;
+pub use naming::name_and_line;
 pub use values::{are_references, related_to};

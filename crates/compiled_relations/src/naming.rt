@@ -1,7 +1,7 @@
 //! Names in refusals.
 
 ghost use Rattle.std.specs.Prelude.{◌≡◌, ◌++◌, IfOk};
-ghost use Rattle.compiled_relations.specs.Finding.{place_told, told};
+ghost use Rattle.compiled_relations.specs.Finding.{place_told, name_and_line};
 
 use compiled_text::CompiledResource;
 use json_parts::text_of;
@@ -22,8 +22,8 @@ fn place_told(alloc: Global, r: &CompiledResource) -> Result<Text, NoMemory>
 }
 
 /// A name that a refusal tells of a resource, and behind it the line of the manifest which declares that.
-pub fn told(alloc: Global, r: &CompiledResource, name: &str) -> Result<Text, NoMemory>
-    ensures { IfOk result (λ text. text ≡ told r.now name.now) }
+pub fn name_and_line(alloc: Global, r: &CompiledResource, name: &str) -> Result<Text, NoMemory>
+    ensures { IfOk result (λ text. text ≡ name_and_line r.now name.now) }
 {
     let mut text = text_of(alloc, name)?;
     text.push(place_told(alloc, r)?.as_str())?;

@@ -6,12 +6,12 @@ ghost use Rattle.rh_base.specs.Refused.{IfRefused};
 ghost use Rattle.pp_eval.specs.Evaluating.{AnswersBy, refusal};
 ghost use Rattle.pp_value.specs.Values.{is_undef};
 ghost use Rattle.compiled_text.specs.Reading.{reference_of};
-ghost use Rattle.compiled_relations.specs.Finding.{found_by, told};
+ghost use Rattle.compiled_relations.specs.Finding.{found_by, name_and_line};
 ghost use Rattle.compiled_relations.specs.Values.{are_references, if_found, related_to};
 ghost use Rattle.compiled_relations.specs.Lists.{are_all_references, related_to_all};
 
 use crate::index::Index;
-use crate::naming::told;
+use crate::naming::name_and_line;
 use compiled_text::{CompiledResource, reference_of};
 use pp_eval::refusal;
 use pp_value::Value;
@@ -65,9 +65,9 @@ fn are_all_references(alloc: Global, items: &[Value]) -> Result<bool, NoMemory>
 
 /// The refusal by a reference that finds nothing.
 fn nothing_found(alloc: Global, r: &CompiledResource, text: &str) -> Fault
-    ensures { IfRefused result (λ x. x ≡ refusal 40 0 (told r.now text.now)) }
+    ensures { IfRefused result (λ x. x ≡ refusal 40 0 (name_and_line r.now text.now)) }
 {
-    match told(alloc, r, text) {
+    match name_and_line(alloc, r, text) {
         Ok(name) => refusal(alloc, 40, 0, name.as_str()),
         Err(m) => Fault::Memory(m),
     }

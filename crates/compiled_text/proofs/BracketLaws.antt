@@ -1,14 +1,15 @@
 -- What is read as a reference is one, both ways.
 use Rattle.std.proofs.Common.{◌≡◌, ◌≢◌, ◌↔◌, ℕ, suc, ◌==◌, ◌<◌, Bool, true, false, true≢false, cond, ◌&&◌, not, List, [], ◌∷◌, ◌++◌, length, get_or, Option, Some, None, option_map, MatchOption, Bor, refl, sym, ap, ap₂, ◌∙◌, eqb-true, arith}
 use Rattle.std.specs.List.{AllByRecursion}
-use Rattle.std.proofs.lemmas.Bool.{ne_eqb}
+use Rattle.std.proofs.lemmas.Bool.{ne_eqb, and_parts, not-true}
 use Rattle.rh_base.specs.Reading.{◌>>=◌}
 use Rattle.pp_value.specs.declared.value.Ref.{Ref}
 use Rattle.pp_eval.specs.References.{ref_of}
 use Rattle.compiled_text.specs.Names.{IsReference}
 use Rattle.compiled_text.specs.Reading.{is_type, around_bracket, before_bracket, is_empty, named, reference_of}
-use Rattle.compiled_text.proofs.Steps.{nothing, one_some, first_read, read_under, if_read, goes_to, two_true, not_so}
 use Rattle.compiled_text.proofs.TypeLaws.{type_where, no_bracket}
+use Rattle.rh_base.proofs.Options.{bind_some, map_some, if_some, bind_goes}
+use Rattle.std.proofs.lemmas.Option.{none-some, same_Some}
 
 -- ---- the first bracket
 
@@ -21,18 +22,18 @@ around_more : (c : ℕ) (text : List ℕ) → Around text → Around (c ∷ text
 around_more c text again front rest h = at (c == 91) refl h
   where
     here : (front rest : List ℕ) → ◌≡◌ {A = Option (List ℕ × List ℕ)} (Some ([], text)) (Some (front, rest)) → ([] ≡ front) × (text ≡ rest)
-    here front rest k = let same : ◌≡◌ {A = List ℕ × List ℕ} ([], text) (front, rest) = one_some ([], text) (front, rest) k in (ap (λ x. x.0) same, ap (λ x. x.1) same)
+    here front rest k = let same : ◌≡◌ {A = List ℕ × List ℕ} ([], text) (front, rest) = same_Some ([], text) (front, rest) k in (ap (λ x. x.0) same, ap (λ x. x.1) same)
 
     later : (x : List ℕ × List ℕ) → around_bracket text ≡ Some x → ◌≡◌ {A = List ℕ × List ℕ} (c ∷ x.0, x.1) (front, rest) → c ∷ text ≡ front ++ 91 ∷ rest
     later x k same = ap (λ l. c ∷ l) (again x.0 x.1 k) ∙ ap (λ y. y.0 ++ 91 ∷ y.1) same
 
     at : (t : Bool) → (c == 91) ≡ t → cond {A = Option (List ℕ × List ℕ)} t (Some ([], text)) (option_map (λ x. (c ∷ x.0, x.1)) (around_bracket text)) ≡ Some (front, rest) → c ∷ text ≡ front ++ 91 ∷ rest
     at true e k = let two = here front rest k in ap (λ d. d ∷ text) (eqb-true c 91 e) ∙ (λ i. two.0 i ++ 91 ∷ two.1 i)
-    at false e k = let x = read_under (λ x. (c ∷ x.0, x.1)) (around_bracket text) (front, rest) k in later x.0 x.1 x.2
+    at false e k = let x = map_some (λ x. (c ∷ x.0, x.1)) (around_bracket text) (front, rest) k in later x.0 x.1 x.2
 
 -- so it is of each text
 around_found : (text : List ℕ) → Around text
-around_found [] front rest h = absurd (nothing (front, rest) h)
+around_found [] front rest h = absurd (none-some (front, rest) h)
 around_found (c ∷ text) front rest h = around_more c text (around_found text) front rest h
 
 -- a text is cut at its first `[`
@@ -70,14 +71,14 @@ before_here (c ∷ d ∷ front) = ap (option_map (λ l. c ∷ l)) (before_here (
 
 -- and what is found stands there
 before_found : (text front : List ℕ) → before_bracket text ≡ Some front → text ≡ front ++ 93 ∷ []
-before_found [] front h = absurd (nothing front h)
+before_found [] front h = absurd (none-some front h)
 before_found (c ∷ []) front h = at (c == 93) refl h
   where
     at : (t : Bool) → (c == 93) ≡ t → cond t (Some []) None ≡ Some front → c ∷ [] ≡ front ++ 93 ∷ []
-    at true e k = ap (λ d. d ∷ []) (eqb-true c 93 e) ∙ ap (λ l. l ++ 93 ∷ []) (one_some [] front k)
-    at false e k = absurd (nothing front k)
+    at true e k = ap (λ d. d ∷ []) (eqb-true c 93 e) ∙ ap (λ l. l ++ 93 ∷ []) (same_Some [] front k)
+    at false e k = absurd (none-some front k)
 before_found (c ∷ d ∷ text) front h =
-    let more = read_under (λ l. c ∷ l) (before_bracket (d ∷ text)) front h in
+    let more = map_some (λ l. c ∷ l) (before_bracket (d ∷ text)) front h in
     ap (λ l. c ∷ l) (before_found (d ∷ text) more.0 more.1) ∙ ap (λ l. l ++ 93 ∷ []) more.2
 
 -- what the library finds before a `]` at the end is what stands before it
@@ -103,9 +104,9 @@ empty_not (c ∷ text) h = refl
 -- a reference that is named has a type and a title, and is that of them
 pub named_by : (type_text title_text : List ℕ) (r : Ref) → named type_text title_text ≡ Some r → (is_type type_text ≡ true) × (title_text ≢ []) × (r ≡ ref_of type_text title_text)
 named_by type_text title_text r h =
-    let both = if_read (is_type type_text && not (is_empty title_text)) (Some (ref_of type_text title_text)) r h in
-    let tests = two_true (is_type type_text) (not (is_empty title_text)) both.0 in
-    (tests.0, not_empty title_text (not_so (is_empty title_text) tests.1), sym (one_some (ref_of type_text title_text) r both.1))
+    let both = if_some (is_type type_text && not (is_empty title_text)) (Some (ref_of type_text title_text)) r h in
+    let tests = and_parts (is_type type_text) (not (is_empty title_text)) both.0 in
+    (tests.0, not_empty title_text (not-true (is_empty title_text) tests.1), sym (same_Some (ref_of type_text title_text) r both.1))
 
 -- a type and a title that isn't empty name their reference
 names : (type_text title_text : List ℕ) → is_type type_text ≡ true → title_text ≢ [] → named type_text title_text ≡ Some (ref_of type_text title_text)
@@ -115,8 +116,8 @@ names type_text title_text is some =
 -- what is read as a reference is one
 pub reference_read : (text : List ℕ) (r : Ref) → reference_of text ≡ Some r → IsReference text r
 reference_read text r h =
-    let x = first_read (around_bracket text) (λ x. before_bracket x.1 >>= named x.0) r h in
-    let title = first_read (before_bracket x.0.1) (named x.0.0) r x.2 in
+    let x = bind_some (around_bracket text) (λ x. before_bracket x.1 >>= named x.0) r h in
+    let title = bind_some (before_bracket x.0.1) (named x.0.0) r x.2 in
     let parts = named_by x.0.0 title.0 r title.2 in record {
       type_text = x.0.0;
       title_text = title.0;
@@ -131,9 +132,9 @@ pub reference_back : (text : List ℕ) (r : Ref) → IsReference text r → refe
 reference_back text r h =
     let is = (type_where h.type_text).1 h.is_type in
     ap reference_of h.spelled
-    ∙ (goes_to (around_bracket (h.type_text ++ 91 ∷ (h.title_text ++ 93 ∷ []))) (λ x. before_bracket x.1 >>= named x.0) (h.type_text, h.title_text ++ 93 ∷ [])
+    ∙ (bind_goes (around_bracket (h.type_text ++ 91 ∷ (h.title_text ++ 93 ∷ []))) (λ x. before_bracket x.1 >>= named x.0) (h.type_text, h.title_text ++ 93 ∷ [])
     (around_here h.type_text (h.title_text ++ 93 ∷ []) (no_bracket h.type_text is))
-    ∙ (goes_to (before_bracket (h.title_text ++ 93 ∷ [])) (named h.type_text) h.title_text (before_here h.title_text)
+    ∙ (bind_goes (before_bracket (h.title_text ++ 93 ∷ [])) (named h.type_text) h.title_text (before_here h.title_text)
     ∙ (names h.type_text h.title_text is h.some_title ∙ ap (λ q. Some q) (sym h.names))))
 
 -- a text is read as a reference exactly where it is one

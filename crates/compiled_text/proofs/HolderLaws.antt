@@ -1,14 +1,13 @@
 -- The containers of resources, as they are noted edge by edge.
 use Rattle.std.proofs.Common.{◌≡◌, ℕ, zero, suc, ◌+◌, ◌<◌, ◌==◌, Bool, true, false, true≢false, cond, ◌||◌, ◌&&◌, not, List, [], ◌∷◌, ◌++◌, length, take, drop, get_or, set, slice_get, add-one, Option, Some, None, is_some, refl, sym, ap, ap₂, subst, ◌∙◌, eqb-true, arith}
 use Rattle.std.specs.List.{AllByRecursion}
-use Rattle.std.proofs.lemmas.Bool.{eq-eqb}
-use Rattle.std.proofs.lemmas.Option.{slice_get_within}
+use Rattle.std.proofs.lemmas.Bool.{eq-eqb, and_parts}
+use Rattle.std.proofs.lemmas.Option.{slice_get_within, same_Some}
 use Rattle.std.proofs.Math.Seq.{drop-cons, take-suc}
 use Rattle.compiled_text.specs.declared.catalog.CompiledResource.{CompiledResource}
 use Rattle.compiled_text.specs.declared.catalog.Containment.{Containment}
 use Rattle.compiled_text.specs.Compiled.{is_class_at, AreHeldOnce, first_outer, holder_of}
 use Rattle.compiled_text.specs.Reading.{is_held, is_free, are_free, compiled_with, AreHolders}
-use Rattle.compiled_text.proofs.Steps.{one_some, two_true}
 
 -- ---- the container of a place
 
@@ -77,7 +76,7 @@ class_noted resources all done left e holders class n = record {
 slot_is : (resources : List CompiledResource) (all done left : List Containment) (holders : List (Option ℕ)) (place : ℕ) (o : Option ℕ) → is_class_at resources place ≡ false → place < length resources
     → AreNoted resources all done left holders → slice_get holders place ≡ Some o → first_outer place done ≡ o
 slot_is resources all done left holders place o other h n is =
-    sym (ap (λ c. cond c None (first_outer place done)) other) ∙ one_some (holder_of (compiled_with resources done) place) o (sym (n.slots place h) ∙ is)
+    sym (ap (λ c. cond c None (first_outer place done)) other) ∙ same_Some (holder_of (compiled_with resources done) place) o (sym (n.slots place h) ∙ is)
 
 -- an edge to what has no container yet is noted in its slot
 edge_noted : (resources : List CompiledResource) (all done left : List Containment) (e : Containment) (holders new : List (Option ℕ)) → is_class_at resources e.inner ≡ false → e.inner < length resources
@@ -215,7 +214,7 @@ before_more resources before (f ∷ edges) e h d =
 free_once : (resources : List CompiledResource) (before edges : List Containment) → are_free resources before edges ≡ true → AreFree resources before edges × AreHeldOnce resources edges
 free_once resources before [] h = (tt, tt)
 free_once resources before (e ∷ edges) h =
-    let two = two_true (is_free resources before e) (are_free resources (before ++ e ∷ []) edges) h in
+    let two = and_parts (is_free resources before e) (are_free resources (before ++ e ∷ []) edges) h in
     let rest = free_once resources (before ++ e ∷ []) edges two.1 in
     let fewer = before_fewer resources before edges e rest.0 in
     ((two.0, fewer.0), (fewer.1, rest.1))

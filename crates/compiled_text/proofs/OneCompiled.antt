@@ -8,22 +8,22 @@ use Rattle.rh_base.specs.Refused.{IfRefused, IsRefusal}
 use Rattle.compiled_text.specs.Compiled.{Compiled}
 use Rattle.compiled_text.specs.Form.{IsCompiled, IsCompiledText}
 use Rattle.compiled_text.specs.Reading.{compiled_of}
-use Rattle.compiled_text.proofs.Steps.{nothing, one_some}
 use Rattle.compiled_text.proofs.FormLaws.{compiled_back}
+use Rattle.std.proofs.lemmas.Option.{none-some, same_Some}
 
 -- JSON says one compiled catalog at most
 same_compiled : (d : Data) (a b : Compiled) → IsCompiled a d → IsCompiled b d → a ≡ b
-same_compiled d a b is was = one_some a b (sym (compiled_back d a is) ∙ compiled_back d b was)
+same_compiled d a b is was = same_Some a b (sym (compiled_back d a is) ∙ compiled_back d b was)
 
 -- so do bytes
 pub one_compiled : (bytes : List ℕ) (a b : Compiled) → IsCompiledText bytes a → IsCompiledText bytes b → a ≡ b
 one_compiled bytes a b is was =
-    same_compiled was.json a b (subst (λ d. IsCompiled a d) (one_some is.json was.json (sym is.is_read ∙ was.is_read)) is.says) was.says
+    same_compiled was.json a b (subst (λ d. IsCompiled a d) (same_Some is.json was.json (sym is.is_read ∙ was.is_read)) is.says) was.says
 
 -- bytes whose JSON isn't read as a compiled catalog say none
 says_none : (bytes : List ℕ) (d : Data) → read bytes ≡ Some d → compiled_of d ≡ None → (c : Compiled) → IsCompiledText bytes c → ⊥
 says_none bytes d is none c text =
-    nothing c (sym none ∙ compiled_back d c (subst (λ e. IsCompiled c e) (one_some text.json d (sym text.is_read ∙ is)) text.says))
+    none-some c (sym none ∙ compiled_back d c (subst (λ e. IsCompiled c e) (same_Some text.json d (sym text.is_read ∙ is)) text.says))
 
 -- the refusal of code 65 comes where the bytes say none
 pub refused_with : (bytes : List ℕ) (d : Data) (f : Fault) → read bytes ≡ Some d → compiled_of d ≡ None → IfRefused f (IsRefusal 65 0 (codes "compiled"))

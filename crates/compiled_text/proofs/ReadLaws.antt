@@ -11,10 +11,12 @@ use Rattle.compiled_text.specs.declared.catalog.CompiledResource.{CompiledResour
 use Rattle.compiled_text.specs.declared.catalog.Containment.{Containment}
 use Rattle.compiled_text.specs.Compiled.{ids_of, counts_as, IsContainment, IsProperResource, IsKept}
 use Rattle.compiled_text.specs.Reading.{resource_of, resources_of, edges_of, are_new, if_new, are_free, compiled_with, AreHolders}
-use Rattle.compiled_text.proofs.Steps.{one_some, if_read, one_more_all}
 use Rattle.compiled_text.proofs.RefLaws.{new_where}
 use Rattle.compiled_text.proofs.HolderLaws.{once_where}
 use Rattle.compiled_text.proofs.FormLaws.{edges_within}
+use Rattle.rh_base.proofs.Lists.{all_last}
+use Rattle.rh_base.proofs.Options.{if_some}
+use Rattle.std.proofs.lemmas.Option.{same_Some}
 
 -- ---- resources
 
@@ -34,7 +36,7 @@ one_more : (resources : List CompiledResource) (v : Value) (left : List Value) (
 one_more resources v left r whole is proper h = (
   by_more (resources_of (items_view left)) resources r
       ∙ (ap (λ o. option_map (λ more. resources ++ more) (o >>= (λ q. option_map (λ rs. q ∷ rs) (resources_of (items_view left))))) (sym is) ∙ h.0),
-  one_more_all IsProperResource resources r h.1 proper,
+  all_last IsProperResource resources r h.1 proper,
 )
 
 -- so it is of the resource at a place
@@ -62,7 +64,7 @@ inner_stand resources first second edges third items read is was are =
 
 -- references that are answered as new differ
 new_of : (ids refs : List Ref) → if_new ids ≡ Some refs → (are_new [] ids ≡ true) × (refs ≡ ids)
-new_of ids refs h = let two = if_read (are_new [] ids) (Some ids) refs h in (two.0, sym (one_some ids refs two.1))
+new_of ids refs h = let two = if_some (are_new [] ids) (Some ids) refs h in (two.0, sym (same_Some ids refs two.1))
 
 -- references, edges and containers that were found are kept beside the compiled catalog
 pub kept : (resources first second third fourth : List CompiledResource) (edges fifth : List Containment) (items : Items) (refs : List Ref) (apart : Bool) (holders : List (Option ℕ))

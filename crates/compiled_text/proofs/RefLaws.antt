@@ -1,20 +1,21 @@
 -- References that differ, and their places.
 use Rattle.std.proofs.Common.{◌≡◌, ◌≢◌, ◌↔◌, ℕ, zero, suc, ◌+◌, Bool, true, false, true≢false, cond, ◌||◌, ◌&&◌, not, nat_lt, List, [], ◌∷◌, ◌++◌, length, slice_get, Option, Some, None, option_map, refl, sym, ap, ap₂, subst, ◌∙◌, arith}
 use Rattle.std.specs.List.{list_any, AllByRecursion, position, position_or_len}
-use Rattle.std.proofs.lemmas.Bool.{ltb-true, ltb-false, lt-ltb, le-ltb}
+use Rattle.std.proofs.lemmas.Bool.{ltb-true, ltb-false, lt-ltb, le-ltb, or_parts, and_parts, not-true}
 use Rattle.std.specs.Cmp.Lexicographic.{bytes_decides}
 use Rattle.pp_value.specs.declared.value.Ref.{Ref}
 use Rattle.pp_value.specs.Values.{same_ref}
 use Rattle.compiled_text.specs.Compiled.{AreDistinct}
 use Rattle.compiled_text.specs.Reading.{place_of, stands_in, are_new}
-use Rattle.compiled_text.proofs.Steps.{nothing, one_some, read_under, two_true, not_so}
+use Rattle.rh_base.proofs.Options.{map_some}
+use Rattle.std.proofs.lemmas.Option.{none-some, same_Some}
 
 -- ---- equal references
 
 -- references are told to be the same exactly where they are
 pub same_where : (r q : Ref) → (same_ref r q ≡ true → r ≡ q) × (r ≡ q → same_ref r q ≡ true)
 same_where r q = (
-  (λ h. let two = two_true _ _ h in
+  (λ h. let two = and_parts _ _ h in
       let kinds : r.kind ≡ q.kind = (bytes_decides r.kind q.kind).0 two.0 in
       let titles : r.title ≡ q.title = (bytes_decides r.title q.title).0 two.1 in
       λ i. record { kind = kinds i; title = titles i }),
@@ -41,27 +42,27 @@ one_more_stands r q refs again place h = at (same_ref r q) refl h
   where
     at : (t : Bool) → same_ref r q ≡ t → cond t (Some 0) (option_map suc (place_of r refs)) ≡ Some place → slice_get (q ∷ refs) place ≡ Some r
     at true e k =
-        let zero_is : 0 ≡ place = one_some 0 place k in
+        let zero_is : 0 ≡ place = same_Some 0 place k in
         subst (λ p. slice_get (q ∷ refs) p ≡ Some r) zero_is (ap (λ p. Some p) (sym ((same_where r q).0 e)))
     at false e k =
-        let found = read_under suc (place_of r refs) place k in
+        let found = map_some suc (place_of r refs) place k in
         subst (λ p. slice_get (q ∷ refs) p ≡ Some r) found.2 (again found.0 found.1)
 
 -- the place of a reference is where it stands
 pub place_stands : (r : Ref) (refs : List Ref) → StandsThere r refs
-place_stands r [] place h = absurd (nothing place h)
+place_stands r [] place h = absurd (none-some place h)
 place_stands r (q ∷ refs) place h = one_more_stands r q refs (place_stands r refs) place h
 
 -- what stands among references that differ from another one isn't that one
-other_at : (q : Ref) (refs : List Ref) (place : ℕ) (r : Ref) → AllByRecursion (λ p. q ≢ p) refs → slice_get refs place ≡ Some r → q ≢ r
-other_at q [] place r h e = absurd (nothing r e)
-other_at q (p ∷ refs) zero r h e = λ k. h.0 (k ∙ sym (one_some p r e))
+pub other_at : (q : Ref) (refs : List Ref) (place : ℕ) (r : Ref) → AllByRecursion (λ p. q ≢ p) refs → slice_get refs place ≡ Some r → q ≢ r
+other_at q [] place r h e = absurd (none-some r e)
+other_at q (p ∷ refs) zero r h e = λ k. h.0 (k ∙ sym (same_Some p r e))
 other_at q (p ∷ refs) (suc place) r h e = other_at q refs place r h.1 e
 
 -- where a reference stands among references that differ is its place
 pub stands_place : (r : Ref) (refs : List Ref) (place : ℕ) → AreDistinct refs → slice_get refs place ≡ Some r → place_of r refs ≡ Some place
-stands_place r [] place d h = absurd (nothing r h)
-stands_place r (q ∷ refs) zero d h = ap (λ t. cond t (Some 0) (option_map suc (place_of r refs))) ((same_where r q).1 (sym (one_some q r h)))
+stands_place r [] place d h = absurd (none-some r h)
+stands_place r (q ∷ refs) zero d h = ap (λ t. cond t (Some 0) (option_map suc (place_of r refs))) ((same_where r q).1 (sym (same_Some q r h)))
 stands_place r (q ∷ refs) (suc place) d h =
     ap (λ t. cond t (Some 0) (option_map suc (place_of r refs))) (differs r q (λ e. other_at q refs place r d.0 h (sym e)))
     ∙ ap (option_map suc) (stands_place r refs place d.1 h)
@@ -104,11 +105,6 @@ module _ (eq : Ref → Ref → Bool) (same : (a b : Ref) → eq a b ≡ same_ref
 
 -- ---- references that are new
 
--- where a disjunction is false both sides are
-neither : (a b : Bool) → (a || b) ≡ false → (a ≡ false) × (b ≡ false)
-neither true b h = absurd (true≢false h)
-neither false b h = (refl, h)
-
 -- one of a list and one more passes if one of the list does, or that
 or_last : (f : Ref → Bool) (refs : List Ref) (q : Ref) → list_any f (refs ++ q ∷ []) ≡ (list_any f refs || f q)
 or_last f [] q = none (f q)
@@ -130,7 +126,7 @@ AreOthers seen refs = AllByRecursion (λ r. stands_in r seen ≡ false) refs
 fewer_seen : (seen : List Ref) (q : Ref) (refs : List Ref) → AreOthers (seen ++ q ∷ []) refs → AreOthers seen refs × AllByRecursion (λ r. q ≢ r) refs
 fewer_seen seen q [] h = (tt, tt)
 fewer_seen seen q (r ∷ refs) h =
-    let two = neither (stands_in r seen) (same_ref r q) (sym (or_last (same_ref r) seen q) ∙ h.0) in
+    let two = or_parts (stands_in r seen) (same_ref r q) (sym (or_last (same_ref r) seen q) ∙ h.0) in
     let rest = fewer_seen seen q refs h.1 in
     ((two.0, rest.0), ((λ e. true≢false (sym ((same_where r q).1 (sym e)) ∙ two.1)), rest.1))
 
@@ -146,10 +142,10 @@ more_seen seen q (r ∷ refs) h d = (
 new_others : (seen refs : List Ref) → are_new seen refs ≡ true → AreOthers seen refs × AreDistinct refs
 new_others seen [] h = (tt, tt)
 new_others seen (r ∷ refs) h =
-    let two = two_true (not (stands_in r seen)) (are_new (seen ++ r ∷ []) refs) h in
+    let two = and_parts (not (stands_in r seen)) (are_new (seen ++ r ∷ []) refs) h in
     let rest = new_others (seen ++ r ∷ []) refs two.1 in
     let fewer = fewer_seen seen r refs rest.0 in
-    ((not_so (stands_in r seen) two.0, fewer.0), (fewer.1, rest.1))
+    ((not-true (stands_in r seen) two.0, fewer.0), (fewer.1, rest.1))
 
 -- and those that haven't and differ are told to be new
 others_new : (seen refs : List Ref) → AreOthers seen refs → AreDistinct refs → are_new seen refs ≡ true

@@ -39,8 +39,6 @@ mutual
   untyped_members no_members h = refl
   untyped_members (member key d members) h = ap₂ (λ x xs. (key, x) ∷ xs) (untyped d h.0) (untyped_members members h.1)
 
--- ---- arrays and objects
-
 -- ---- keys that differ
 
 -- a key before all of these isn't among them

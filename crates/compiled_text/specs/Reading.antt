@@ -5,8 +5,6 @@ use Rattle.std.specs.List.{list_any}
 use Rattle.serde_json.specs.Data.{Data, null, boolean, number, string, array, object, Items, no_items, item}
 use Rattle.serde_json.specs.Find.{get, as_i64, as_u64, as_number, as_str, as_array, as_object}
 use Rattle.rh_base.specs.Reading.{◌>>=◌}
-use Rattle.rh_base.specs.declared.misread.Misread.{Misread}
-use Rattle.rh_base.specs.declared.misread.Misread.TheVariants as misread
 use Rattle.pp_value.specs.declared.value.Ref.{Ref}
 use Rattle.pp_value.specs.Values.{Pair, same_ref}
 use Rattle.pp_eval.specs.References.{ref_of}
@@ -224,11 +222,6 @@ abbrev pub compiled_of : Data → Option Compiled
 compiled_of d = if has_format d then items_at (codes "resources") d >>= resources_of >>= compiled_behind d else None
 
 -- ---- what the parts of the code do
-
--- a fact where the fault is that the text has another form
-abbrev pub IfForm : Misread → Type 0 → Type 0
-IfForm misread.Form P = P
-IfForm (misread.Memory m) P = Unit {0}
 
 -- each resource has a slot, which has the container in the first of these edges that contain it; a class has none
 abbrev pub AreHolders : List CompiledResource → List Containment → List (Option ℕ) → Type 0

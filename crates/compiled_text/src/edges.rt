@@ -5,7 +5,8 @@ ghost use Rattle.std.specs.List.{AllByRecursion};
 ghost use Rattle.serde_json.specs.View.{view, items_view};
 ghost use Rattle.rh_base.specs.Reading.{Gives};
 ghost use Rattle.compiled_text.specs.Compiled.{ids_of, is_class, is_container_at, is_class_at};
-ghost use Rattle.compiled_text.specs.Reading.{place_at, edge_of, edges_of, are_free, AreHolders, IfForm};
+ghost use Rattle.json_parts.specs.Forms.{IfForm};
+ghost use Rattle.compiled_text.specs.Reading.{place_at, edge_of, edges_of, are_free, AreHolders};
 
 use crate::catalog::{CompiledResource, Containment};
 use crate::names::reference_of;

@@ -22,15 +22,10 @@ fn active_literal(trail: &Trail, vars: usize, activity: &mut Activity) -> Option
         }
         let sign = if activity.phase(var) { 0 } else { 1 };
         let literal = (2 * i + sign) as u32;
-        let holds = trail.holds(literal);
-        if holds {
-            continue;
+        let is_free = is_unset(trail, vars, literal);
+        if is_free {
+            return Some(literal);
         }
-        let is_false = trail.is_false(literal);
-        if is_false {
-            continue;
-        }
-        return Some(literal);
     }
     None
 }

@@ -23,7 +23,9 @@ use Rattle.dep_graph.proofs.FrontLaws.{above_ancestor, ancestor_above}
 use Rattle.dep_graph.proofs.NamedLaws.{proper_name, name_proper}
 use Rattle.dep_graph.proofs.FileLaws.{farthest, nearest_least, near_from, near_in}
 use Rattle.dep_graph.proofs.Related.{linked_related, related_linked}
-use Rattle.graph_semantics.proofs.Basics.{no_way, both_true, true_both, some_same}
+use Rattle.graph_semantics.proofs.Basics.{no_way}
+use Rattle.std.proofs.lemmas.Bool.{and_parts, and_from}
+use Rattle.std.proofs.lemmas.Option.{same_Some}
 
 -- ---- an edge that is kept
 
@@ -63,7 +65,7 @@ kept_in c links are place target free =
 has_name_is : (c : Catalog) (kind name : List ℕ) (place : ℕ) (r : Resource) → IsPlainAt c place r → is_proper name ≡ true → has_name kind name (slice_get c.resources place) ≡ true → Manages c place kind name
 has_name_is c kind name place r plain proper h =
     let here = ap (has_name kind name) (sym (stands c place r plain.real)) ∙ h in
-    let both = both_true (bytes_eq r.id.kind kind) (is_text name (name_of r)) here in
+    let both = and_parts (bytes_eq r.id.kind kind) (is_text name (name_of r)) here in
     record { resource = r; plain = plain; kind_is = (bytes_decides r.id.kind kind).0 both.0; name_is = text_is (name_of r) both.1; proper = proper_name name proper } where
       text_is : (o : Option (List ℕ)) → is_text name o ≡ true → o ≡ Some name
       text_is None e = absurd (no_way e)
@@ -73,7 +75,7 @@ has_name_is c kind name place r plain proper h =
 manages_has : (c : Catalog) (kind name : List ℕ) (place : ℕ) → Manages c place kind name → has_name kind name (slice_get c.resources place) ≡ true
 manages_has c kind name place m =
     ap (has_name kind name) (stands c place m.resource m.plain.real)
-    ∙ true_both (bytes_eq m.resource.id.kind kind) (is_text name (name_of m.resource)) ((bytes_decides m.resource.id.kind kind).1 m.kind_is)
+    ∙ and_from (bytes_eq m.resource.id.kind kind) (is_text name (name_of m.resource)) ((bytes_decides m.resource.id.kind kind).1 m.kind_is)
     (ap (is_text name) m.name_is ∙ (bytes_decides name name).1 refl)
 
 -- targets are those of a proper name
@@ -126,7 +128,7 @@ named_in c links are place target r kind name plain names m free =
 file_at : (c : Catalog) (f : ManagedFile) → IsFileAmong c (plain_places c) f → IsFileAt c f.place f.path
 file_at c f h =
     let r = plain_at c f.place h.place in
-    let same = some_same r.0 h.resource (sym (stands c f.place r.0 r.1.real) ∙ h.at) in
+    let same = same_Some r.0 h.resource (sym (stands c f.place r.0 r.1.real) ∙ h.at) in
     let file = subst (λ (x : Resource). FilePath x f.path) (sym same) h.file in
     record { resource = r.0; plain = r.1; kind = file.kind; text = file.text; given = file.given; spelled = file.spelled; free = file.free }
 

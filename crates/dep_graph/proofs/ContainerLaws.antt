@@ -11,9 +11,10 @@ use Rattle.graph_semantics.specs.Relations.{real_at, if_real}
 use Rattle.graph_semantics.specs.Graphs.{Node, Start, End, rank, last_node, IsContainerAt, IsMember, Edge}
 use Rattle.dep_graph.specs.Numbers.{last_of, last_at}
 use Rattle.dep_graph.specs.Numbered.{member_edges, edges_inside, container_edges, structure_edges}
-use Rattle.graph_semantics.proofs.RealPlaces.{stands, isnt_virtual, within}
+use Rattle.graph_semantics.proofs.RealPlaces.{stands, isnt_virtual, within, first_plain, later_plain, real_of}
 use Rattle.graph_semantics.proofs.Elements.{either_way, none_in, head_in, tail_in, in_cases, in_one, in_flat_map, flat_map_in, any_in}
-use Rattle.graph_semantics.proofs.Basics.{both_true, not_true, some_same}
+use Rattle.std.proofs.lemmas.Bool.{and_parts, not-true}
+use Rattle.std.proofs.lemmas.Option.{same_Some}
 
 -- where a real resource is done is its last node
 pub last_is : (c : Catalog) (place : ℕ) (r : Resource) → real_at c place ≡ Some r → last_at c place ≡ last_node r.sort place
@@ -45,16 +46,6 @@ in_inside : (outer n k : ℕ) (resources : List Resource) → Contains (inside o
 in_inside outer n k [] h = absurd (none_in k h)
 in_inside outer n k (r ∷ resources) h = inside_step outer n k r resources (is_inside outer r) refl (in_inside outer (n + 1) k resources) h
 
--- a resource inside has its place kept
-first_inside : (n : ℕ) (t : Bool) (rest : List ℕ) → t ≡ true → Contains (cond t (n ∷ rest) rest) n
-first_inside n true rest h = head_in n rest
-first_inside n false rest h = cc
-
--- so have those further on
-later_inside : (n k : ℕ) (t : Bool) (rest : List ℕ) → Contains rest k → Contains (cond t (n ∷ rest) rest) k
-later_inside n k true rest h = tail_in n k rest h
-later_inside n k false rest h = h
-
 -- the place of each resource inside is kept
 inside_in : (outer n i : ℕ) (resources : List Resource) (r : Resource) → slice_get resources i ≡ Some r → is_inside outer r ≡ true → Contains (inside outer n resources) (n + i)
 inside_in outer n i [] r h is = absurd (none_some r h) where
@@ -63,10 +54,10 @@ inside_in outer n i [] r h is = absurd (none_some r h) where
 inside_in outer n zero (q ∷ resources) r h is =
     let first : n ≡ n + 0 = omega arith in
     subst (Contains (inside outer n (q ∷ resources))) first
-    (first_inside n (is_inside outer q) (inside outer (n + 1) resources) (ap (is_inside outer) (some_same q r h) ∙ is))
+    (first_plain n (is_inside outer q) (inside outer (n + 1) resources) (ap (is_inside outer) (same_Some q r h) ∙ is))
 inside_in outer n (suc i) (q ∷ resources) r h is =
     let next : (n + 1) + i ≡ n + suc i = omega arith in
-    later_inside n (n + suc i) (is_inside outer q) (inside outer (n + 1) resources)
+    later_plain n (n + suc i) (is_inside outer q) (inside outer (n + 1) resources)
     (subst (Contains (inside outer (n + 1) resources)) next (inside_in outer (n + 1) i resources r h is))
 
 -- a resource that is told to be held by a container is
@@ -145,21 +136,16 @@ held_in outer classes (h ∷ holdings) k m =
 
 -- ---- members
 
--- a resource that isn't virtual is real
-some_not_virtual : (r : Resource) (t : Bool) → r.is_virtual ≡ t → t ≡ false → cond t None (Some r) ≡ Some r
-some_not_virtual r true is h = cc
-some_not_virtual r false is h = refl
-
 -- what is listed of a container is a member
 pub member_from : (c : Catalog) (outer k : ℕ) → Contains (members_of outer c) k → IsMember c outer k
 member_from c outer k m = either_way declared contained (Contains-append_cases (inside outer 0 c.resources) (classes_in outer c.holdings) k m) where
   declared : Contains (inside outer 0 c.resources) k → IsMember c outer k
   declared m =
       let at = in_inside outer 0 k c.resources m in
-      let both = both_true (is_held_by outer at.resource.holder) (not at.resource.is_virtual) at.inside in
+      let both = and_parts (is_held_by outer at.resource.holder) (not at.resource.is_virtual) at.inside in
       let same : at.index ≡ k = omega (arith, at.is) in
       IsMember.declared at.resource
-      (ap (option_and_then if_real) (subst (λ i. slice_get c.resources i ≡ Some at.resource) same at.at) ∙ some_not_virtual at.resource at.resource.is_virtual refl (not_true at.resource.is_virtual both.1))
+      (ap (option_and_then if_real) (subst (λ i. slice_get c.resources i ≡ Some at.resource) same at.at) ∙ real_of at.resource at.resource.is_virtual refl (not-true at.resource.is_virtual both.1))
       (holder_is outer at.resource.holder both.0)
 
   contained : Contains (classes_in outer c.holdings) k → IsMember c outer k

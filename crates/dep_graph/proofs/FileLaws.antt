@@ -11,7 +11,9 @@ use Rattle.dep_graph.specs.Files.{FilePath, FilePathIs, IsFileAmong, AreFiles, i
 use Rattle.dep_graph.specs.declared.files.ManagedFile.{ManagedFile}
 use Rattle.graph_semantics.proofs.Elements.{either_way, none_in, head_in, tail_in, in_cases}
 use Rattle.dep_graph.proofs.NamedLaws.{all_from}
-use Rattle.graph_semantics.proofs.Basics.{no_way, both_true, true_both, some_same}
+use Rattle.graph_semantics.proofs.Basics.{no_way}
+use Rattle.std.proofs.lemmas.Bool.{and_parts, and_from}
+use Rattle.std.proofs.lemmas.Option.{same_Some}
 
 -- a text spells one path at most
 abbrev pub OnePath : Type 0
@@ -19,7 +21,7 @@ OnePath = (text : List ℕ) (p q : Path) → IsPathText text p → IsPathText te
 
 -- a resource is a file of one path at most
 pub one_file : OnePath → (r : Resource) (p q : Path) → FilePath r p → FilePath r q → p ≡ q
-one_file once r p q h k = once h.text p q h.spelled (subst (λ t. IsPathText t q) (some_same k.text h.text (sym k.given ∙ h.given)) k.spelled)
+one_file once r p q h k = once h.text p q h.spelled (subst (λ t. IsPathText t q) (same_Some k.text h.text (sym k.given ∙ h.given)) k.spelled)
 
 -- ---- one more place
 
@@ -48,7 +50,7 @@ pub no_file : (c : Catalog) (places : List ℕ) (place : ℕ) (files : List Mana
 no_file c places place files r here none are f = (
   λ m. among_more c places place f ((are f).0 m),
   λ h. either_way (λ k. (are f).1 k)
-      (λ e. absurd (none f.path (subst (λ (q : Resource). FilePath q f.path) (some_same h.resource r (sym h.at ∙ sym (ap (slice_get c.resources) e) ∙ here)) h.file)))
+      (λ e. absurd (none f.path (subst (λ (q : Resource). FilePath q f.path) (same_Some h.resource r (sym h.at ∙ sym (ap (slice_get c.resources) e) ∙ here)) h.file)))
       (among_cases c places place f h),
 )
 
@@ -65,7 +67,7 @@ one_more_file once c places files g r here file are f = (
       (Contains-push_cases files g f m),
   λ h. either_way (λ k. Contains-append_left files (g ∷ []) f ((are f).1 k))
       (λ e.
-      let same_resource : h.resource ≡ r = some_same h.resource r (sym h.at ∙ sym (ap (slice_get c.resources) e) ∙ here) in
+      let same_resource : h.resource ≡ r = same_Some h.resource r (sym h.at ∙ sym (ap (slice_get c.resources) e) ∙ here) in
       let path : g.path ≡ f.path = one_file once r g.path f.path file (subst (λ (q : Resource). FilePath q f.path) same_resource h.file) in
       subst (Contains (files ++ g ∷ [])) (same_file g f path e) (Contains-push files g))
       (among_cases c places g.place f h),
@@ -115,7 +117,7 @@ pub record IsNear (n : ℕ) (p : Path) (files : List ManagedFile) (k : ℕ) : Ty
 near_step : (n : ℕ) (p : Path) (f : ManagedFile) (files : List ManagedFile) (k : ℕ) (t : Bool) → is_nearest n p f.path ≡ t → (Contains (places_above n p files) k → IsNear n p files k)
     → Contains (cond t (f.place ∷ places_above n p files) (places_above n p files)) k → IsNear n p (f ∷ files) k
 near_step n p f files k true is rest h =
-    let both = both_true (is_above f.path p) (nat_le n (length f.path)) is in
+    let both = and_parts (is_above f.path p) (nat_le n (length f.path)) is in
     either_way (λ e. record { file = f; among = head_in f files; above = both.0; near = leb-true n (length f.path) both.1; place = e })
     (λ m. let r = rest m in record { file = r.file; among = tail_in f r.file files r.among; above = r.above; near = r.near; place = r.place })
     (in_cases f.place k (places_above n p files) h)
@@ -142,7 +144,7 @@ near_in n p [] k h = absurd (none_in h.file h.among)
 near_in n p (f ∷ files) k h =
     either_way
     (λ e.
-    let here : is_nearest n p f.path ≡ true = ap (λ (x : ManagedFile). is_nearest n p x.path) e ∙ true_both (is_above h.file.path p) (nat_le n (length h.file.path)) h.above (le-leb n (length h.file.path) h.near) in
+    let here : is_nearest n p f.path ≡ true = ap (λ (x : ManagedFile). is_nearest n p x.path) e ∙ and_from (is_above h.file.path p) (nat_le n (length h.file.path)) h.above (le-leb n (length h.file.path) h.near) in
     subst (Contains (places_above n p (f ∷ files))) (ap (λ (x : ManagedFile). x.place) e ∙ h.place) (first_near (is_nearest n p f.path) f.place (places_above n p files) here))
     (λ m. later_near (is_nearest n p f.path) f.place k (places_above n p files) (near_in n p files k (record { file = h.file; among = m; above = h.above; near = h.near; place = h.place })))
     (in_cases f h.file files h.among)

@@ -1,36 +1,15 @@
 -- Paths above others, told by a test.
 use Rattle.std.proofs.Common.{◌≡◌, ◌≢◌, ℕ, ◌+◌, ◌<◌, List, [], ◌∷◌, ◌++◌, length, length-append, Bool, true, false, ◌&&◌, refl, sym, ap, ◌∙◌, arith}
 use Rattle.std.specs.Prelude.{IsTrue, nat_lt}
-use Rattle.std.specs.Str.{bytes_eq}
-use Rattle.std.specs.Cmp.Lexicographic.{bytes_decides}
 use Rattle.std.proofs.Common.{ltb-true, lt-ltb}
 use Rattle.fs_semantics.specs.FileTree.{Path}
 use Rattle.fs_semantics.specs.Disjoint.{IsAncestor}
 use Rattle.fs_lang.specs.Fronts.{is_front}
 use Rattle.dep_graph.specs.Files.{is_above}
-use Rattle.graph_semantics.proofs.Basics.{no_way, both_true}
-
--- segments that are told to be equal are
-same_bytes : (s r : List ℕ) → bytes_eq s r ≡ true → s ≡ r
-same_bytes s r h = (bytes_decides s r).0 h
-
--- a segment is told to be equal to itself
-bytes_same : (s : List ℕ) → bytes_eq s s ≡ true
-bytes_same s = (bytes_decides s s).1 refl
-
--- a path that is told to be the front of another is
-front_more : (p q : Path) → is_front p q ≡ true → (more : Path) × (q ≡ p ++ more)
-front_more [] q h = (q, refl)
-front_more (s ∷ p) [] h = absurd (no_way h)
-front_more (s ∷ p) (r ∷ q) h =
-    let both = both_true (bytes_eq s r) (is_front p q) h in
-    let rest = front_more p q both.1 in
-    (rest.0, ap (λ x. x ∷ q) (sym (same_bytes s r both.0)) ∙ ap (λ x. s ∷ x) rest.1)
-
--- and one that is the front is told to be
-more_front : (p more : Path) → is_front p (p ++ more) ≡ true
-more_front [] more = refl
-more_front (s ∷ p) more = ap (λ t. t && is_front p (p ++ more)) (bytes_same s) ∙ more_front p more
+use Rattle.graph_semantics.proofs.Basics.{no_way}
+use Rattle.pp_value.proofs.Distinct.{same_key, key_itself}
+use Rattle.fs_lang.proofs.FrontLaws.{front_of, front_append}
+use Rattle.std.proofs.lemmas.Bool.{and_parts}
 
 -- a front that is shorter has something behind it
 longer : (p q more : Path) → q ≡ p ++ more → length p < length q → more ≢ []
@@ -44,8 +23,8 @@ nonempty_length (x ∷ xs) h = omega arith
 -- a path that is told to be above another is an ancestor
 pub above_ancestor : (p q : Path) → is_above p q ≡ true → IsAncestor p q
 above_ancestor p q h =
-    let both = both_true (nat_lt (length p) (length q)) (is_front p q) h in
-    let rest = front_more p q both.1 in
+    let both = and_parts (nat_lt (length p) (length q)) (is_front p q) h in
+    let rest = front_of p q both.1 in
     (rest.0, longer p q rest.0 rest.1 (ltb-true (length p) (length q) both.0), rest.1)
 
 -- and an ancestor is told to be above
@@ -54,7 +33,7 @@ ancestor_above p q h =
     let long : length q ≡ length p + length h.0 = ap length h.2 ∙ length-append p h.0 in
     let some = nonempty_length h.0 h.1 in
     let less : nat_lt (length p) (length q) ≡ true = lt-ltb (length p) (length q) (omega arith) in
-    ap (λ t. t && is_front p q) less ∙ ap (is_front p) h.2 ∙ more_front p h.0
+    ap (λ t. t && is_front p q) less ∙ ap (is_front p) h.2 ∙ front_append p h.0
 
 -- a test that tells ancestors is that of paths above
 pub told : (p q : Path) (t : Bool) → (IsTrue t → IsAncestor p q) × (IsAncestor p q → IsTrue t) → t ≡ is_above p q

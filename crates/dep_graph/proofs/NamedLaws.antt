@@ -14,7 +14,8 @@ use Rattle.catalog_semantics.specs.Catalogs.{Catalog}
 use Rattle.graph_semantics.specs.Automatic.{list_or_none, named_by}
 use Rattle.dep_graph.specs.Named.{is_proper, has_name, named_among, named_targets, member_text, targets_by_names}
 use Rattle.graph_semantics.proofs.Elements.{none_in, in_flat_map, in_filter}
-use Rattle.graph_semantics.proofs.Basics.{no_way, both_true, true_both, not_true}
+use Rattle.graph_semantics.proofs.Basics.{no_way}
+use Rattle.std.proofs.lemmas.Bool.{and_parts, not-true, and_from}
 
 -- ---- proper names
 
@@ -42,19 +43,19 @@ length_zero (b ∷ name) h = eqb-suc-zero (length name)
 -- a text that is told to be a proper name is
 pub proper_name : (name : List ℕ) → is_proper name ≡ true → IsName name
 proper_name name h =
-    let outer = both_true (not (length name == 0) && nat_le (length name) NAME_BYTES) (not (list_any (λ b. b == 0) name)) h in
-    let inner = both_true (not (length name == 0)) (nat_le (length name) NAME_BYTES) outer.0 in
+    let outer = and_parts (not (length name == 0) && nat_le (length name) NAME_BYTES) (not (list_any (λ b. b == 0) name)) h in
+    let inner = and_parts (not (length name == 0)) (nat_le (length name) NAME_BYTES) outer.0 in
     record {
-      nonempty = λ e. no_way (sym (not_true (length name == 0) inner.0) ∙ ap (λ (n : List ℕ). length n == 0) e);
+      nonempty = λ e. no_way (sym (not-true (length name == 0) inner.0) ∙ ap (λ (n : List ℕ). length n == 0) e);
       bytes = leb-true (length name) NAME_BYTES inner.1;
-      no_zero = no_zeros name (not_true (list_any (λ b. b == 0) name) outer.1);
+      no_zero = no_zeros name (not-true (list_any (λ b. b == 0) name) outer.1);
     }
 
 -- and a proper name is told to be
 pub name_proper : (name : List ℕ) → IsName name → is_proper name ≡ true
 name_proper name h =
-    true_both (not (length name == 0) && nat_le (length name) NAME_BYTES) (not (list_any (λ b. b == 0) name))
-    (true_both (not (length name == 0)) (nat_le (length name) NAME_BYTES) (ap not (length_zero name h.nonempty)) (le-leb (length name) NAME_BYTES h.bytes))
+    and_from (not (length name == 0) && nat_le (length name) NAME_BYTES) (not (list_any (λ b. b == 0) name))
+    (and_from (not (length name == 0)) (nat_le (length name) NAME_BYTES) (ap not (length_zero name h.nonempty)) (le-leb (length name) NAME_BYTES h.bytes))
     (ap not (zeros_no name h.no_zero))
 
 -- a test of a proper name is true

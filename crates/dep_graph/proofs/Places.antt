@@ -5,14 +5,14 @@ use Rattle.std.proofs.lemmas.List.{drop_more}
 use Rattle.catalog_semantics.specs.declared.catalog.Resource.{Resource}
 use Rattle.catalog_semantics.specs.Catalogs.{is_plain_sort}
 use Rattle.graph_semantics.specs.Graphs.{plain_from}
-use Rattle.graph_semantics.proofs.Basics.{some_same}
+use Rattle.std.proofs.lemmas.Option.{same_Some}
 
 -- what is got from a place stands there
 pub at_place : {X : Type 0} (xs : List X) (i : ℕ) (x : X) → slice_get xs i ≡ Some x → (i < length xs) × (x ≡ get_or xs i x)
 at_place [] i x h = absurd (none_some x h) where
   none_some : {X : Type 0} (x : X) → ◌≡◌ {A = Option X} None (Some x) → ⊥
   none_some x h = cc
-at_place (y ∷ xs) zero x h = (omega arith, sym (some_same y x h))
+at_place (y ∷ xs) zero x h = (omega arith, sym (same_Some y x h))
 at_place (y ∷ xs) (suc i) x h = let rest = at_place xs i x h in (omega (arith, rest.0), rest.1)
 
 -- the rest begins with what stands at the place

@@ -25,7 +25,9 @@ use Rattle.graph_semantics.proofs.Elements.{either_way, none_in, head_in, tail_i
 use Rattle.dep_graph.proofs.Resolved.{nodes_come, nodes_there, none_missing, one_missing}
 use Rattle.graph_semantics.proofs.RealPlaces.{within}
 use Rattle.dep_graph.proofs.ContainerLaws.{last_is, IsEdge}
-use Rattle.graph_semantics.proofs.Basics.{no_way, both_true, true_both, some_same, err_ok, ok_same}
+use Rattle.graph_semantics.proofs.Basics.{no_way, err_ok, ok_same}
+use Rattle.std.proofs.lemmas.Bool.{and_parts, and_from}
+use Rattle.std.proofs.lemmas.Option.{same_Some}
 
 -- ---- a target is real
 
@@ -36,7 +38,7 @@ target_real c ref k h = step (place_of ref c.resources) h where
   there place None is e = absurd (none_some e) where
     none_some : ◌≡◌ {A = Option ℕ} None (Some k) → ⊥
     none_some e = cc
-  there place (Some r) is e = (r, subst (λ p. real_at c p ≡ Some r) (some_same place k e) is)
+  there place (Some r) is e = (r, subst (λ p. real_at c p ≡ Some r) (same_Some place k e) is)
 
   step : (o : Option ℕ) → option_and_then (if_real_at c) o ≡ Some k → (r : Resource) × (real_at c k ≡ Some r)
   step None e = absurd (none_some e) where
@@ -280,7 +282,7 @@ in_has n ns h = in_any (λ k. k == n) ns n h (eq-eqb n n refl)
 pub linked_related : (c : Catalog) (links : List Link) → AreLinks c links → (a b : ℕ) → is_linked links (2 * a) (2 * b) ≡ true → IsRelated c a b
 linked_related c links are a b h =
     let at = any_in (λ l. has (2 * a) l.from && has (2 * b) l.to) links h in
-    let both = both_true (has (2 * a) at.0.from) (has (2 * b) at.0.to) at.2 in
+    let both = and_parts (has (2 * a) at.0.from) (has (2 * b) at.0.to) at.2 in
     let q = link_of c links are at.0 at.1 in
     let f = first_of c q.relation at.0 (2 * a) q.of (has_in (2 * a) at.0.from both.0) in
     let s = second_of c q.relation at.0 (2 * b) q.of (has_in (2 * b) at.0.to both.1) in
@@ -302,4 +304,4 @@ related_linked c links are a b r real plain h =
     let at = related_link c links are h.0 a b h.1 h.2 in
     let first : rank (last_at c a) ≡ 2 * a = ap rank (last_is c a r real) ∙ plain_last r.sort a plain in
     in_any (λ l. has (2 * a) l.from && has (2 * b) l.to) links at.0 at.1
-    (true_both (has (2 * a) at.0.from) (has (2 * b) at.0.to) (in_has (2 * a) at.0.from (subst (Contains at.0.from) first at.2)) (in_has (2 * b) at.0.to at.3))
+    (and_from (has (2 * a) at.0.from) (has (2 * b) at.0.to) (in_has (2 * a) at.0.from (subst (Contains at.0.from) first at.2)) (in_has (2 * b) at.0.to at.3))

@@ -12,7 +12,8 @@ use Rattle.graph_semantics.specs.Relations.{target_of, first_missing}
 use Rattle.dep_graph.specs.Links.{side_number, numbered, with_nodes}
 use Rattle.dep_graph.specs.declared.targets.Side.{Side}
 use Rattle.graph_semantics.proofs.Elements.{either_way, none_in, head_in, tail_in, in_cases}
-use Rattle.graph_semantics.proofs.Basics.{some_same, err_ok, ok_same}
+use Rattle.graph_semantics.proofs.Basics.{err_ok, ok_same}
+use Rattle.std.proofs.lemmas.Option.{same_Some}
 
 -- a reference among some names this place, and this is the place's number
 pub record IsNodeOf (s : Side) (c : Catalog) (refs : List Ref) (n : ℕ) : Type 0 where
@@ -60,7 +61,7 @@ module _ (s : Side) (c : Catalog) (at : ℕ) where
       record {
         stay = λ n k. more.stay n (Contains-append_left old (side_number s c place ∷ []) n k);
         there = λ r p k names. either_way
-            (λ same. subst (λ q. Contains ns (side_number s c q)) (some_same place p (sym is ∙ ap (target_of c) same ∙ names)) (more.stay (side_number s c place) (Contains-push old (side_number s c place))))
+            (λ same. subst (λ q. Contains ns (side_number s c q)) (same_Some place p (sym is ∙ ap (target_of c) same ∙ names)) (more.stay (side_number s c place) (Contains-push old (side_number s c place))))
             (λ tail. more.there r p tail names)
             (in_cases ref r refs k);
       }

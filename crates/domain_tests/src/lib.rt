@@ -2,14 +2,4 @@
 #![tactic(auto)]
 
 #[cfg(test)]
-mod domains;
-#[cfg(test)]
-mod footprints;
-#[cfg(test)]
-mod parts;
-#[cfg(test)]
-mod pruning;
-#[cfg(test)]
-mod weights;
-#[cfg(test)]
-mod words;
+mod tests;

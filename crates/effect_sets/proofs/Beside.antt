@@ -9,7 +9,7 @@ use Rattle.fs_semantics.specs.FileTree.{Path, Entry, Folder, File, Link as LinkT
 use Rattle.fs_semantics.specs.Programs.{Test, True, False, Not, And, Or, IsFile, IsLink, IsDir, IsEmpty, IsNone, Program, Programs, Id, Err, Mkdir, Creat, Link, Rm, Cp, Steps, If, none, next, Outcome, and_then, holds, made, removed, copied, run, run_all}
 use Rattle.fs_semantics.specs.Changes.{IsProper, AreProperSteps}
 use Rattle.fs_semantics.proofs.Trees.{path_total, path_eq_refl, path_eq_same, is_dir_other, insert-same}
-use Rattle.fs_semantics.proofs.ConstructLaws.{keeps_tree}
+use Rattle.fs_semantics.proofs.ConstructLaws.{keeps_tree, free_no_folder}
 use Rattle.effect_sets.specs.Footprints.{Paths, Footprint, joined, see, looking, making, removing, ensuring, test_footprint, ensured, in_case, sure_after, sure_after_steps, footprint_after, steps_footprint}
 use Rattle.fs_semantics.proofs.Keys.{key_from, key_passes, same_bool}
 
@@ -34,16 +34,6 @@ folder_entry (Some Folder) h = refl
 folder_entry (Some (File content)) h = cc
 folder_entry (Some (LinkTo target)) h = cc
 
--- what isn't there is no folder
-none_no_folder : (r : Option Entry) → is_no_entry r ≡ true → is_folder_entry r ≡ true → ⊥
-none_no_folder None h k = cc
-none_no_folder (Some x) h k = cc
-
--- a free place is no folder
-free_no_folder : (t : Tree) (p : Path) → is_none t p ≡ true → is_dir t p ≡ true → ⊥
-free_no_folder t [] h k = cc
-free_no_folder t (s ∷ p) h k = none_no_folder (map.get t (s ∷ p)) h k
-
 -- ---- a folder that is made sure of
 
 -- a folder can be made sure of there: it stands, or may be made
@@ -58,7 +48,7 @@ ensure_is s p t = elim (is_dir t (s ∷ p)) as (λ b. is_dir t (s ∷ p) ≡ b �
 ] refl
 
 -- a choice that makes sure of a folder is just that one
-ensured_is : (a : Test) (e f : Program) (p : Path) → ensured a e f ≡ Some p → (a ≡ IsDir p) × (e ≡ Id) × (f ≡ Mkdir p)
+pub ensured_is : (a : Test) (e f : Program) (p : Path) → ensured a e f ≡ Some p → (a ≡ IsDir p) × (e ≡ Id) × (f ≡ Mkdir p)
 ensured_is (IsDir p) Id (Mkdir q) r h = elim (path_eq p q) as (λ b. path_eq p q ≡ b → cond b (Some p) None ≡ Some r → (IsDir p ≡ IsDir r) × (Id ≡ Id) × (Mkdir q ≡ Mkdir r)) [
   | true ↦ λ e k. let is : p ≡ r = cc in (ap IsDir is, refl, ap Mkdir (sym (path_eq_same p q e) ∙ is))
   | false ↦ λ e k. cc

@@ -1,12 +1,11 @@
 -- When footprints are apart, by sets that have nothing in common.
 use Rattle.std.proofs.Common.{◌≡◌, Bool, true, false, ◌&&◌, ◌||◌, List, [], ◌∷◌, inl, inr, refl, sym, ap, ◌∙◌}
 use Rattle.std.specs.Prelude.{◌↔◌, IsTrue}
-use Rattle.std.proofs.lemmas.Bool.{or_cases, or_left, or_right, and_parts, and_from}
+use Rattle.std.proofs.lemmas.Bool.{or_cases, or_left, or_right, and_parts, and_from, or_from}
 use Rattle.fs_semantics.specs.FileTree.{Path, path_eq, parent, is_among}
 use Rattle.fs_semantics.proofs.Trees.{path_eq_refl, path_eq_same}
 use Rattle.effect_sets.specs.Footprints.{Paths}
 use Rattle.effect_sets.specs.Members.{is_parent_of}
-use Rattle.effect_sets.proofs.FoundLaws.{neither}
 
 -- of a disjunction that is false the left side is false
 neither_left : (a b : Bool) → (a || b) ≡ false → a ≡ false
@@ -32,7 +31,7 @@ clear_of_three s a b c x y z h k l = (
   (λ all q here.
       let both = and_parts (x && y) z all in
       let two = and_parts x y both.0 in
-      neither (a q || b q) (c q) (neither (a q) (b q) (h.0 two.0 q here) (k.0 two.1 q here)) (l.0 both.1 q here)),
+      or_from (a q || b q) (c q) (or_from (a q) (b q) (h.0 two.0 q here) (k.0 two.1 q here)) (l.0 both.1 q here)),
   (λ all.
       let two : Apart s (λ q. a q || b q) = λ q here. neither_left (a q || b q) (c q) (all q here) in
       and_from (x && y) z

@@ -4,11 +4,7 @@ use Rattle.fs_semantics.specs.FileTree.{Path, path_eq, is_root}
 use Rattle.fs_semantics.proofs.Trees.{path_eq_same}
 use Rattle.effect_sets.specs.Footprints.{Paths, nowhere, Footprint, no_footprint, joined, see}
 use Rattle.effect_sets.specs.Members.{with_one}
-
--- a disjunction with false is its other side
-or_false : (b : Bool) → (b || false) ≡ b
-or_false true = refl
-or_false false = refl
+use Rattle.std.proofs.Math.Bool.{or-false}
 
 -- how disjunctions are nested doesn't matter
 or_assoc : (a b c : Bool) → ((a || b) || c) ≡ (a || (b || c))
@@ -19,11 +15,11 @@ or_assoc false b c = refl
 or_flip : (a b : Bool) → (a || b) ≡ (b || a)
 or_flip true true = refl
 or_flip true false = refl
-or_flip false b = sym (or_false b)
+or_flip false b = sym (or-false b)
 
 -- no path more changes no set
 pub nothing_more : (f : Paths) → (λ q. f q || nowhere q) ≡ f
-nothing_more f = λ i q. or_false (f q) i
+nothing_more f = λ i q. or-false (f q) i
 
 -- a footprint of nothing changes none
 pub joined_none : (f : Footprint) → joined f no_footprint ≡ f
@@ -60,7 +56,7 @@ seen f sure p h = λ i q. (or_flip (path_eq q p) (f q) ∙ ap (λ b. f q || b) (
 
 -- the root, and a path that is sure to be a folder, aren't read
 pub unseen : (f sure : Paths) (p : Path) → (is_root p || sure p) ≡ true → f ≡ (λ q. f q || see p sure q)
-unseen f sure p h = λ i q. (sym (or_false (f q)) ∙ ap (λ b. f q || b) (by (path_eq q p) (is_root q || sure q) (λ e. ap (λ r. is_root r || sure r) (path_eq_same q p e) ∙ h))) i
+unseen f sure p h = λ i q. (sym (or-false (f q)) ∙ ap (λ b. f q || b) (by (path_eq q p) (is_root q || sure q) (λ e. ap (λ r. is_root r || sure r) (path_eq_same q p e) ∙ h))) i
   where
     by : (b x : Bool) → (b ≡ true → x ≡ true) → false ≡ (b && not x)
     by true x k = sym (ap not (k refl))
@@ -101,8 +97,3 @@ module _ (f : Footprint) where
 -- two paths that are looked at, one after the other
 pub seen_both : (f g h sure : Paths) (p r : Path) → g ≡ both f (see p sure) → h ≡ both g (see r sure) → h ≡ both f (both (see p sure) (see r sure))
 seen_both f g h sure p r a b = b ∙ ap (λ x. both x (see r sure)) a ∙ all_assoc f (see p sure) (see r sure)
-
--- a disjunction of two that are false is false
-pub neither : (a b : Bool) → a ≡ false → b ≡ false → (a || b) ≡ false
-neither true b h k = h
-neither false b h k = k

@@ -6,6 +6,7 @@ use Rattle.fs_semantics.proofs.Trees.{path_eq_refl, path_eq_same}
 use Rattle.fs_semantics.proofs.Keys.{same_bool}
 use Rattle.effect_sets.specs.Footprints.{Paths, nowhere}
 use Rattle.effect_sets.specs.Members.{members, with_one, without_one, common, is_parent_of}
+use Rattle.std.proofs.Math.Bool.{and-false}
 
 -- a side of a disjunction that follows from the other adds nothing
 same_or : (b x : Bool) → (b ≡ true → x ≡ true) → x ≡ (b || x)
@@ -25,11 +26,6 @@ one_more : (b x : Bool) → cond b true x ≡ (b || x)
 one_more true x = refl
 one_more false x = refl
 
--- a conjunction with false is false
-and_false : (x : Bool) → (x && false) ≡ false
-and_false true = refl
-and_false false = refl
-
 -- a conjunction with true is its other side
 and_true : (x : Bool) → (x && true) ≡ x
 and_true true = refl
@@ -37,7 +33,7 @@ and_true false = refl
 
 -- a choice of false, or of what is there, is what is there without it
 one_less : (b x : Bool) → cond b false x ≡ (x && not b)
-one_less true x = sym (and_false x)
+one_less true x = sym (and-false x)
 one_less false x = sym (and_true x)
 
 -- to put a path in gives the set with it
@@ -89,7 +85,7 @@ one_shared old rest p f g h q next is =
     ap (λ k. (is_among q rest && f q) || k q) is ∙ moved (path_eq q p) (is_among q rest) (f q) (g q) ∙ sym (ap (λ l. (is_among q l && f q) || g q) next)
 
 -- three sets in either order are the same
-turned : (b c y : Bool) → (c || (b || y)) ≡ ((b || c) || y)
+pub turned : (b c y : Bool) → (c || (b || y)) ≡ ((b || c) || y)
 turned true true y = refl
 turned true false y = refl
 turned false c y = refl

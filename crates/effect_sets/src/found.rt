@@ -4,7 +4,7 @@ ghost use Rattle.std.specs.Prelude.{◌≡◌, ◌||◌, OnOk};
 ghost use Rattle.fs_semantics.specs.FileTree.{is_root};
 ghost use Rattle.effect_sets.specs.Footprints.{no_footprint, joined, see, looking, looking_below, making, removing, ensuring};
 ghost use Rattle.effect_sets.specs.Members.{members};
-ghost use Rattle.effect_sets.specs.Telling.{told};
+ghost use Rattle.effect_sets.specs.Telling.{found_footprint};
 
 use crate::sets::add;
 use fs_lang::Path;
@@ -23,7 +23,7 @@ pub(crate) struct Found {
 
 /// Nothing yet.
 pub(crate) fn nothing(alloc: Global) -> Found
-    ensures { told result ≡ no_footprint }
+    ensures { found_footprint result ≡ no_footprint }
 {
     Found {
         reads: BTreeSet::new(alloc),
@@ -63,7 +63,7 @@ pub(crate) fn look(
     p: &Path,
     sure: &BTreeSet<Path>,
 ) -> Result<(), NoMemory>
-    ensures { OnOk result (told found.new ≡ joined (told found.old) (looking p.now (members sure.now))) }
+    ensures { OnOk result (found_footprint found.new ≡ joined (found_footprint found.old) (looking p.now (members sure.now))) }
 {
     see_at(alloc, &mut found.reads, p, sure)
 }
@@ -75,7 +75,7 @@ pub(crate) fn look_below(
     p: &Path,
     sure: &BTreeSet<Path>,
 ) -> Result<(), NoMemory>
-    ensures { OnOk result (told found.new ≡ joined (told found.old) (looking_below p.now (members sure.now))) }
+    ensures { OnOk result (found_footprint found.new ≡ joined (found_footprint found.old) (looking_below p.now (members sure.now))) }
 {
     see_at(alloc, &mut found.reads, p, sure)?;
     add(alloc, &mut found.children, p)
@@ -88,7 +88,7 @@ pub(crate) fn make(
     p: &Path,
     sure: &BTreeSet<Path>,
 ) -> Result<(), NoMemory>
-    ensures { OnOk result (told found.new ≡ joined (told found.old) (making p.now (members sure.now))) }
+    ensures { OnOk result (found_footprint found.new ≡ joined (found_footprint found.old) (making p.now (members sure.now))) }
 {
     see_at(alloc, &mut found.reads, p, sure)?;
     let above = p.parent(alloc)?;
@@ -103,7 +103,7 @@ pub(crate) fn remove(
     p: &Path,
     sure: &BTreeSet<Path>,
 ) -> Result<(), NoMemory>
-    ensures { OnOk result (told found.new ≡ joined (told found.old) (removing p.now (members sure.now))) }
+    ensures { OnOk result (found_footprint found.new ≡ joined (found_footprint found.old) (removing p.now (members sure.now))) }
 {
     see_at(alloc, &mut found.reads, p, sure)?;
     add(alloc, &mut found.writes, p)?;
@@ -117,7 +117,7 @@ pub(crate) fn ensure(
     p: &Path,
     sure: &BTreeSet<Path>,
 ) -> Result<(), NoMemory>
-    ensures { OnOk result (told found.new ≡ joined (told found.old) (ensuring p.now (members sure.now))) }
+    ensures { OnOk result (found_footprint found.new ≡ joined (found_footprint found.old) (ensuring p.now (members sure.now))) }
 {
     let above = p.parent(alloc)?;
     see_at(alloc, &mut found.reads, &above, sure)?;

@@ -4,7 +4,7 @@ ghost use Rattle.std.specs.Prelude.{◌≡◌, OnOk};
 ghost use Rattle.fs_lang.specs.Meaning.{test_of};
 ghost use Rattle.effect_sets.specs.Footprints.{joined, test_footprint};
 ghost use Rattle.effect_sets.specs.Members.{members};
-ghost use Rattle.effect_sets.specs.Telling.{told};
+ghost use Rattle.effect_sets.specs.Telling.{found_footprint};
 
 use crate::found::{Found, look, look_below};
 use fs_lang::{Path, Test};
@@ -21,7 +21,7 @@ pub(crate) fn look_for(
     sure: &BTreeSet<Path>,
     found: &mut Found,
 ) -> Result<(), NoMemory>
-    ensures { OnOk result (told found.new ≡ joined (told found.old) (test_footprint (test_of test.now) (members sure.now))) }
+    ensures { OnOk result (found_footprint found.new ≡ joined (found_footprint found.old) (test_footprint (test_of test.now) (members sure.now))) }
 {
     match test {
         Test::True | Test::False => Ok(()),
@@ -44,7 +44,7 @@ fn look_for_both(
     sure: &BTreeSet<Path>,
     found: &mut Found,
 ) -> Result<(), NoMemory>
-    ensures { OnOk result (told found.new ≡ joined (told found.old)
+    ensures { OnOk result (found_footprint found.new ≡ joined (found_footprint found.old)
         (joined (test_footprint (test_of a.now) (members sure.now))
         (test_footprint (test_of b.now) (members sure.now)))) }
 {

@@ -10,7 +10,7 @@ ghost use Rattle.fs_semantics.specs.Programs.{If, Rm, Cp};
 ghost use Rattle.fs_lang.specs.Meaning.{test_of, program_of, programs_in};
 ghost use Rattle.effect_sets.specs.Footprints.{joined, looking, making, removing, ensuring, sure_after, sure_after_steps, footprint_after, steps_footprint};
 ghost use Rattle.effect_sets.specs.Members.{members, with_one, without_one};
-ghost use Rattle.effect_sets.specs.Telling.{told};
+ghost use Rattle.effect_sets.specs.Telling.{found_footprint};
 
 use crate::found::{Found, ensure, look, make, remove};
 use crate::keeping::{ensured_path, keeps};
@@ -28,7 +28,7 @@ fn walk_removal(
     sure: &mut BTreeSet<Path>,
     found: &mut Found,
 ) -> Result<(), NoMemory>
-    ensures footprint { OnOk result (told found.new ≡ joined (told found.old) (removing p.now (members sure.old))) }
+    ensures footprint { OnOk result (found_footprint found.new ≡ joined (found_footprint found.old) (removing p.now (members sure.old))) }
     ensures sure { OnOk result (members sure.new ≡ without_one p.now (members sure.old)) }
 {
     remove(alloc, found, p, sure)?;
@@ -44,7 +44,7 @@ fn walk_copy(
     sure: &BTreeSet<Path>,
     found: &mut Found,
 ) -> Result<(), NoMemory>
-    ensures { OnOk result (told found.new ≡ joined (told found.old)
+    ensures { OnOk result (found_footprint found.new ≡ joined (found_footprint found.old)
         (joined (looking from.now (members sure.now)) (making p.now (members sure.now)))) }
 {
     look(alloc, found, from, sure)?;
@@ -58,7 +58,7 @@ fn walk_ensured(
     sure: &mut BTreeSet<Path>,
     found: &mut Found,
 ) -> Result<(), NoMemory>
-    ensures footprint { OnOk result (told found.new ≡ joined (told found.old) (ensuring p.now (members sure.old))) }
+    ensures footprint { OnOk result (found_footprint found.new ≡ joined (found_footprint found.old) (ensuring p.now (members sure.old))) }
     ensures sure { OnOk result (members sure.new ≡ with_one p.now (members sure.old)) }
 {
     ensure(alloc, found, p, sure)?;
@@ -75,7 +75,7 @@ pub(crate) fn walk(
     found: &mut Found,
 ) -> Result<(), NoMemory>
     ensures footprint { OnOk result
-        (told found.new ≡ joined (told found.old) (footprint_after (program_of program.now) (members sure.old))) }
+        (found_footprint found.new ≡ joined (found_footprint found.old) (footprint_after (program_of program.now) (members sure.old))) }
     ensures sure { OnOk result (members sure.new ≡ sure_after (program_of program.now) (members sure.old)) }
 {
     match program {
@@ -98,7 +98,7 @@ fn walk_all(
     found: &mut Found,
 ) -> Result<(), NoMemory>
     ensures footprint { OnOk result
-        (told found.new ≡ joined (told found.old) (steps_footprint (programs_in programs.now) (members sure.old))) }
+        (found_footprint found.new ≡ joined (found_footprint found.old) (steps_footprint (programs_in programs.now) (members sure.old))) }
     ensures sure { OnOk result (members sure.new ≡ sure_after_steps (programs_in programs.now) (members sure.old)) }
 {
     for program in programs {
@@ -117,7 +117,7 @@ fn walk_choice(
     found: &mut Found,
 ) -> Result<(), NoMemory>
     ensures footprint { OnOk result
-        (told found.new ≡ joined (told found.old)
+        (found_footprint found.new ≡ joined (found_footprint found.old)
         (footprint_after (If (test_of test.now) (program_of e.now) (program_of f.now)) (members sure.old))) }
     ensures sure { OnOk result
         (members sure.new ≡ sure_after (If (test_of test.now) (program_of e.now) (program_of f.now))
@@ -142,7 +142,7 @@ fn walk_branches(
     found: &mut Found,
 ) -> Result<(), NoMemory>
     ensures footprint { OnOk result
-        (told found.new ≡ joined (told found.old)
+        (found_footprint found.new ≡ joined (found_footprint found.old)
         (joined (footprint_after (program_of e.now) (members sure.old))
         (footprint_after (program_of f.now) (members sure.old)))) }
     ensures sure { OnOk result
@@ -168,7 +168,7 @@ fn walk_apart(
     found: &mut Found,
 ) -> Result<(), NoMemory>
     ensures footprint { OnOk result
-        (told found.new ≡ joined (told found.old)
+        (found_footprint found.new ≡ joined (found_footprint found.old)
         (joined (footprint_after (program_of e.now) (members sure.old))
         (footprint_after (program_of f.now) (members sure.old)))) }
     ensures sure { OnOk result

@@ -1,6 +1,5 @@
 -- From the answer to what is told of it.
-use Rattle.std.proofs.Common.{◌≡◌, inl, inr, ℕ, ◌<◌, ◌^◌, ◌-◌, List, [], length, Option, Some, None, refl, sym, subst}
-use Rattle.std.specs.List.{AllByRecursion}
+use Rattle.std.proofs.Common.{◌≡◌, inl, inr, ℕ, ◌<◌, ◌^◌, ◌-◌, List, [], length, refl, subst}
 use Rattle.fs_semantics.specs.Programs.{Program}
 use Rattle.fs_semantics.specs.FileTree.{Path}
 use Rattle.given_hosts.specs.Given.{IsDeterministicFrom}
@@ -34,12 +33,10 @@ use Rattle.given_entry.specs.Answers.{IsSpentOnFrom, IsKnownBeforeFrom, IsEnsure
 use Rattle.entry_report.specs.Lines.{missed_of, spent_late_text}
 use Rattle.entry_report.specs.Told.{TellsMissed, TellsSpent, IsEntryTold}
 use Rattle.entry_report.specs.Steps.{IsTellableFirst, IsReportOf}
+use Rattle.ensured_entry.proofs.RunLaws.{below}
+use Rattle.verdict_report.proofs.VerdictLaws.{given_some}
 
 -- ---- what the lines need
-
--- the numbers of an order of so many programs are below their count
-pub below : (n m : ℕ) (order : List ℕ) → n ≡ m → AllByRecursion (λ k. k < m) order → AllByRecursion (λ k. k < n) order
-below n m order e all = subst (λ c. AllByRecursion (λ k. k < c) order) (sym e) all
 
 -- an answer about one graph that isn't known to be deterministic speaks of its programs
 pub tellable_first : (given : List Path) (n : ℕ) (es : List Program) (order : Relation) (budget : ℕ) → n ≡ length es → (f : First) → IsUnsettledFrom given es order budget f → IsTellableFirst n f
@@ -51,11 +48,6 @@ tellable_first given n es order budget same (first.Differs k (witness.Ends t tur
 tellable_first given n es order budget same (first.Spent k cnf log) is = tt
 
 -- ---- what is told
-
--- conflicts that are spent are given
-pub given_some : (given : Option ℕ) → (budget_of given ≡ 2 ^ 64 - 1 → ⊥) → (c : ℕ) × (given ≡ Some c)
-given_some None limited = absurd (limited refl)
-given_some (Some c) limited = (c, refl)
 
 -- where the budget was spent on a question it isn't the greatest number
 limited_in : (given : List Path) (es : List Program) (order : Relation) (w : Wanted) (budget : ℕ) (a : Late) (f : Formula) (steps : List Step) → IsSpentOnFrom given es order w budget a f steps → budget ≡ 2 ^ 64 - 1 → ⊥

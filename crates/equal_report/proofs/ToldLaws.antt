@@ -19,7 +19,7 @@ use Rattle.verdict.specs.declared.verdicts.Settled.{Settled}
 use Rattle.given_verdict.specs.Settled.{IsSettledFrom, IsUnsettledFrom}
 use Rattle.verdict_report.specs.Lines.{spent_text}
 use Rattle.entry_report.specs.Lines.{first_status, first_lines}
-use Rattle.entry_report.proofs.ToldLaws.{tellable_first, given_some, spent_on_order}
+use Rattle.entry_report.proofs.ToldLaws.{tellable_first, spent_on_order}
 use Rattle.equal_graphs.specs.Equal.{FirstsPart, EndApart}
 use Rattle.given_equal.specs.Sizes.{AreWithinWith}
 use Rattle.given_equal.specs.Answers.{IsSpentOnFrom, IsComparedFrom}
@@ -28,6 +28,7 @@ use Rattle.equal_graphs.specs.declared.compared.Compared.TheVariants as compared
 use Rattle.equal_report.specs.Lines.{settled_lines, spent_equal_text}
 use Rattle.equal_report.specs.Steps.{IsTellable, IsReportOf}
 use Rattle.equal_report.specs.Told.{IsSettledWith, TellsDifference, TellsUnanswered, TellsSpent, Tells, differs, unanswered, equal, unequal, spent, IsComparedTold}
+use Rattle.verdict_report.proofs.VerdictLaws.{given_some}
 
 -- ---- what the lines need
 

@@ -1,7 +1,6 @@
 -- From a verdict to what is explained of it.
-use Rattle.std.proofs.Common.{◌≡◌, inr, ◌-◌, ℕ, List, [], ◌++◌, Some, None, refl, sym, ap, subst, subst₂, ◌∙◌}
-use Rattle.std.specs.Prelude.{IsSome}
-use Rattle.fs_semantics.specs.Programs.{Program, Outcome}
+use Rattle.std.proofs.Common.{◌≡◌, inr, ◌-◌, ℕ, List, [], ◌++◌, refl, sym, ap, subst, subst₂, ◌∙◌}
+use Rattle.fs_semantics.specs.Programs.{Program}
 use Rattle.fs_semantics.specs.Orders.{IsExchange, outcome}
 use Rattle.fs_semantics.specs.FileTree.{Path, Tree}
 use Rattle.given_hosts.specs.Given.{IsDeterministicFrom, IsCounterexampleFrom, SucceedsFrom, IsSecondRunCounterexampleFrom}
@@ -24,6 +23,7 @@ use Rattle.explained_runs.specs.Told.{TellsApart, TellsAgain, TellsFromNothing}
 use Rattle.explain_report.specs.Lines.{apart_text, again_text}
 use Rattle.explain_report.specs.Steps.{EndHolds}
 use Rattle.explain_report.specs.Told.{IsEnding, ExplainsDifference, ExplainsChange}
+use Rattle.explained_runs.proofs.RunLaws.{some_end}
 
 -- ---- the end of the text
 
@@ -33,11 +33,6 @@ pub ends_never : (given : List Path) (names : List (List ℕ)) (es : List Progra
 ends_never given names es order line last never told is = inr (never, line, told, is)
 
 -- ---- a second run
-
--- an outcome that is a tree is one
-some_end : (o : Outcome) (u : Tree) → o ≡ Some u → IsSome o
-some_end None u is = cc
-some_end (Some t) u is = refl
 
 -- a first run that a second one changes has ended in a tree
 succeeds_first : (given : List Path) (es : List Program) (order : Relation) (t : Tree) (turns : List ℕ) → IsSecondRunCounterexampleFrom given es (Comes order) t turns → SucceedsFrom given es (Comes order)
@@ -78,8 +73,6 @@ explains_difference given names es order head lines shown text w t l r left righ
     let by : IsCounterexampleFrom given es (Comes order) t left right × IsExchange (Comes order) left right =
     subst₂ (λ (p : List ℕ) (q : List ℕ). IsCounterexampleFrom given es (Comes order) t p q × IsExchange (Comes order) p q) (sym same_left) (sym same_right) of in
     record { status = refl; lines = lines; told = told order by.0 by.1; text = whole ∙ ap (apart_text head) all }
-
--- ---- conflicts that are spent
 
 -- ---- the last question
 

@@ -116,7 +116,7 @@ never_again given names es order t turns lines fails c = let clash : ◌≡◌ {
 -- ---- from nothing
 
 -- an outcome that is a tree is one
-some_end : (o : Outcome) (u : Tree) → o ≡ Some u → IsSome o
+pub some_end : (o : Outcome) (u : Tree) → o ≡ Some u → IsSome o
 some_end None u is = cc
 some_end (Some t) u is = refl
 

@@ -3,10 +3,11 @@ use Rattle.std.proofs.Common.{◌≡◌, ◌⊎◌, inl, inr, ℕ, zero, suc, �
 use Rattle.std.specs.Prelude.{slice_index_or}
 use Rattle.std.specs.List.{AllByRecursion}
 use Rattle.fs_semantics.specs.FileTree.{Tree}
-use Rattle.fs_semantics.specs.Programs.{Program, Id, Outcome, and_then, run}
+use Rattle.fs_semantics.specs.Programs.{Program, Id, and_then, run}
 use Rattle.fs_semantics.specs.Orders.{outcome}
 use Rattle.failure_semantics.specs.Failures.{Failure, FailsAt}
 use Rattle.failure_semantics.specs.Orders.{OrderFailsAt}
+use Rattle.failure_semantics.proofs.Found.{ended}
 
 -- what holds of all numbers of a list holds of all of its fronts
 pub all_ahead : (P : ℕ → Type 0) (xs : List ℕ) (k : ℕ) → AllByRecursion P xs → AllByRecursion P (take k xs)
@@ -18,11 +19,6 @@ all_ahead P (x ∷ xs) (suc k) h = (h.0, all_ahead P xs k h.1)
 pub take_whole : (xs : List ℕ) → take (length xs) xs ≡ xs
 take_whole [] = refl
 take_whole (x ∷ xs) = ap (λ ys. x ∷ ys) (take_whole xs)
-
--- an outcome is Error or a tree
-ended : (o : Outcome) → (o ≡ None) ⊎ ((u : Tree) × (o ≡ Some u))
-ended None = inl refl
-ended (Some u) = inr (u, refl)
 
 module _ (es : List Program) where
   -- the program with this number

@@ -64,11 +64,6 @@ was_next p q xs ys x y there is =
     let right = ap length y ∙ ap length (sym is) in
     eq-eqb (length xs) (length ys + 1) (omega (arith, sum, whole, left, right))
 
--- nothing is both true and false
-pub on_or_off : (b : Bool) → b ≡ false → b ≡ true → ⊥
-on_or_off true h k = cc
-on_or_off false h k = cc
-
 -- a path lies below its parent
 pub is_above : (p q : Path) → (q ≡ [] → ⊥) → parent q ≡ p → IsAncestor p q
 is_above p q there is = subst (λ r. IsAncestor r q) is (parent_is_above q there)

@@ -1,7 +1,6 @@
 -- Steps as programs in the order of their numbers.
 use Rattle.std.proofs.Common.{◌≡◌, ◌⊎◌, inl, inr, ℕ, zero, suc, ◌+◌, ◌-◌, ◌<◌, ◌≤◌, List, [], ◌∷◌, ◌++◌, length, take, drop, map, get_or, Some, None, refl, sym, ap, subst, ◌∙◌, arith}
 use Rattle.std.specs.Prelude.{slice_index_or}
-use Rattle.std.specs.List.{AllByRecursion}
 use Rattle.fs_semantics.specs.FileTree.{Tree}
 use Rattle.fs_semantics.specs.Programs as model
 use Rattle.fs_semantics.specs.Programs.{Programs, Id, none, next, Outcome, and_then, run, run_all}
@@ -13,11 +12,8 @@ use Rattle.fs_lang.specs.Sizes.{programs_size}
 use Rattle.failure_search.specs.declared.fronts.Searched.{Searched}
 use Rattle.failure_search.specs.declared.fronts.Searched.TheVariants as searched
 use Rattle.failure_search.specs.Found.{LeadsInto, IsSearched}
-
--- numbers up to a bound are below it
-pub numbers_below : (j n m : ℕ) → j + n ≤ m → AllByRecursion (λ i. i < m) (up_from j n)
-numbers_below j zero m h = tt
-numbers_below j (suc n) m h = (omega (arith, h), numbers_below (suc j) n m (omega (arith, h)))
+use Rattle.failure_semantics.proofs.Found.{ended}
+use Rattle.fs_semantics.proofs.Ground.{shifted}
 
 -- the numbers up to one more are those and the last
 next_number : (j n : ℕ) → up_from j n ++ (j + n) ∷ [] ≡ up_from j (suc n)
@@ -49,16 +45,6 @@ number_at j (suc n) (suc k) h = let rest = number_at (suc j) n k (omega (arith, 
 then_alike : (o : Outcome) (f g : Tree → Outcome) → ((u : Tree) → f u ≡ g u) → and_then o f ≡ and_then o g
 then_alike None f g h = refl
 then_alike (Some u) f g h = h u
-
--- one program more in front
-shifted : (x : model.Program) (es : List model.Program) (j n : ℕ) (t : Tree) → outcome (x ∷ es) (up_from (suc j) n) t ≡ outcome es (up_from j n) t
-shifted x es j zero t = refl
-shifted x es j (suc n) t = then_alike (run (slice_index_or es j Id) t) (outcome (x ∷ es) (up_from (suc (suc j)) n)) (outcome es (up_from (suc j) n)) (λ u. shifted x es (suc j) n u)
-
--- an outcome is Error or a tree
-ended : (o : Outcome) → (o ≡ None) ⊎ ((u : Tree) × (o ≡ Some u))
-ended None = inl refl
-ended (Some u) = inr (u, refl)
 
 -- the programs of a list, as steps
 abbrev listed : List model.Program → Programs

@@ -7,9 +7,10 @@ use Rattle.fs_semantics.proofs.Words.{not_holds}
 use Rattle.failure_semantics.specs.Failures.{Reason, Explains, Failure, Choice, refusal, FailsHere, FailsIn, FailInSteps}
 use Rattle.failure_semantics.specs.Told.{no_place, not_gone, no_copy}
 use Rattle.failure_semantics.proofs.ReasonLaws.{place_lacks, removal_lacks, copy_lacks}
+use Rattle.std.proofs.lemmas.Bool.{cases_Bool}
 
 -- either outcome
-ended : (o : Outcome) → (o ≡ None) ⊎ ((u : Tree) × (o ≡ Some u))
+pub ended : (o : Outcome) → (o ≡ None) ⊎ ((u : Tree) × (o ≡ Some u))
 ended None = inl refl
 ended (Some u) = inr (u, refl)
 
@@ -17,13 +18,8 @@ ended (Some u) = inr (u, refl)
 tried : (e : Program) (t : Tree) (r : Reason) → run e t ≡ None → Explains e r t → (f : Failure) × FailsHere e t f
 tried e t r h why = (record { construct = e; reason = r; tree = t }, record { construct = refl; tree = refl; fails = h; reason = why })
 
--- a truth value is true or false
-true_or : (b : Bool) → (b ≡ true) ⊎ (b ≡ false)
-true_or true = inl refl
-true_or false = inr refl
-
 -- nothing is both true and false
-off : (b : Bool) → b ≡ false → b ≡ true → ⊥
+pub off : (b : Bool) → b ≡ false → b ≡ true → ⊥
 off true h k = cc
 off false h k = cc
 
@@ -38,7 +34,7 @@ mutual
   found c (Rm p) t h = tried (Rm p) t (not_gone t p) h (removal_lacks t p h)
   found c (Cp from p) t h = tried (Cp from p) t (no_copy t from p) h (copy_lacks t from p h)
   found c (Steps es) t h = found_in c es t h
-  found c (If a e g) t h = elim (true_or (holds a t)) [
+  found c (If a e g) t h = elim (cases_Bool (holds a t)) [
     | inl holding ↦ let f = found (Some (Not a, t)) e t (ap (λ b. cond b (run e t) (run g t)) (sym holding) ∙ h) in (f.0, inl (holding, f.1))
     | inr other ↦ let f = found (Some (a, t)) g t (ap (λ b. cond b (run e t) (run g t)) (sym other) ∙ h) in (f.0, inr (off (holds a t) other, f.1))
   ]

@@ -6,13 +6,8 @@ use Rattle.fs_semantics.specs.Programs.{Program, Id, Outcome, and_then, run}
 use Rattle.fs_semantics.specs.Orders.{outcome}
 use Rattle.failure_semantics.specs.Failures.{Failure, FailsAt}
 use Rattle.failure_semantics.specs.Orders.{OrderFailsAt, EndsShortestFront}
-use Rattle.failure_semantics.proofs.Found.{found, error}
+use Rattle.failure_semantics.proofs.Found.{found, error, ended}
 use Rattle.failure_semantics.proofs.Once.{once}
-
--- an outcome is Error or a tree
-ended : (o : Outcome) → (o ≡ None) ⊎ ((u : Tree) × (o ≡ Some u))
-ended None = inl refl
-ended (Some u) = inr (u, refl)
 
 module _ (es : List Program) where
   -- the program with this number

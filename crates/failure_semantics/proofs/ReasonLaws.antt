@@ -10,11 +10,7 @@ use Rattle.fs_semantics.proofs.Keys.{key_from, key_passes}
 use Rattle.fs_semantics.proofs.Trees.{path_eq_same, path_eq_refl}
 use Rattle.failure_semantics.specs.Told.{no_place, not_gone, no_copy}
 use Rattle.failure_semantics.specs.Failures.{Reason, Exists, NoFolder, NoFile, NothingThere, NotEmpty, TheRoot, Needs, Always, IsTakenAt, HasChild, HasNoPlace, StaysThere, HasNoCopy}
-
--- a truth value is true or false
-true_or : (b : Bool) → (b ≡ true) ⊎ (b ≡ false)
-true_or true = inl refl
-true_or false = inr refl
+use Rattle.std.proofs.lemmas.Bool.{false_from_ne_true, cases_Bool}
 
 -- nothing is both true and false
 off : (b : Bool) → b ≡ false → b ≡ true → ⊥
@@ -40,7 +36,7 @@ not_none t (s ∷ p) h = elim h [ inl e ↦ cc | inr x ↦ ap is_no_entry x.1 ]
 
 -- where no entry can be made, the reason that is told holds
 pub place_lacks : (t : Tree) (p : Path) (x : Entry) → made p x t ≡ None → HasNoPlace p (no_place t p) t
-place_lacks t p x h = elim (true_or (is_none t p)) [
+place_lacks t p x h = elim (cases_Bool (is_none t p)) [
   | inl free ↦ subst (λ b. HasNoPlace p (cond b NoFolder Exists) t) (sym free)
       ((free_at t p).0 free, (λ above. no_folder (is_none t p) (is_dir t (parent p)) (map.insert t p x) h free ((folder_at t (parent p)).1 above)))
   | inr there ↦ subst (λ b. HasNoPlace p (cond b NoFolder Exists) t) (sym there) (taken t p there)
@@ -112,11 +108,11 @@ any_child false b e h = cc
 pub removal_lacks : (t : Tree) (p : Path) → removed p t ≡ None → StaysThere p (not_gone t p) t
 removal_lacks t p h =
     let s = stays (is_file t p) (is_link t p) (is_root p) (is_empty_dir t p) (map.remove t p) h in
-    elim (true_or (is_none t p)) [
+    elim (cases_Bool (is_none t p)) [
       | inl free ↦ subst (λ b. StaysThere p (cond b NothingThere (cond (is_empty_dir t p) TheRoot NotEmpty)) t) (sym free) ((free_at t p).0 free)
       | inr there ↦
           let folder = is_folder t p there s.file s.link in
-          subst (λ b. StaysThere p (cond b NothingThere (cond (is_empty_dir t p) TheRoot NotEmpty)) t) (sym there) (elim (true_or (is_empty_dir t p)) [
+          subst (λ b. StaysThere p (cond b NothingThere (cond (is_empty_dir t p) TheRoot NotEmpty)) t) (sym there) (elim (cases_Bool (is_empty_dir t p)) [
             | inl empty ↦ subst (λ b. StaysThere p (cond b TheRoot NotEmpty) t) (sym empty) (root_is p (s.root empty), ((empty_at t p).0 empty).1)
             | inr full ↦ subst (λ b. StaysThere p (cond b TheRoot NotEmpty) t) (sym full)
                 (folder, has_child t p (any_child (is_dir t p) (list_any (λ q. path_eq (parent q) p) (map.keys t)) ((folder_at t p).1 folder) full))
@@ -166,7 +162,7 @@ copy_made t from p r content e h = ap (λ s. copied s p t) (sym e) ∙ h
 
 -- where no file can be copied, the reason that is told holds
 pub copy_lacks : (t : Tree) (from p : Path) → copied (map.get t from) p t ≡ None → HasNoCopy from p (no_copy t from p) t
-copy_lacks t from p h = elim (true_or (is_file t from)) [
+copy_lacks t from p h = elim (cases_Bool (is_file t from)) [
   | inl file ↦
       let there = (file_at t from).0 file in
       subst (λ b. HasNoCopy from p (cond b (no_place t p) NoFile) t) (sym file)
@@ -174,18 +170,13 @@ copy_lacks t from p h = elim (true_or (is_file t from)) [
   | inr no_file ↦ subst (λ b. HasNoCopy from p (cond b (no_place t p) NoFile) t) (sym no_file) (λ f. off (is_file t from) no_file ((file_at t from).1 f))
 ]
 
--- a truth value that isn't true is false
-not_true : (b : Bool) → (b ≡ true → ⊥) → b ≡ false
-not_true true h = absurd (h refl)
-not_true false h = refl
-
 -- where there is a file to be copied, each reason that holds of its place is the one that is told
 copy_with : (t : Tree) (from p : Path) (r : Reason) → IsFileAt t from → HasNoPlace p r t → r ≡ no_copy t from p
 copy_with t from p r file h = place_reason t p r h ∙ sym (ap (λ b. cond b (no_place t p) NoFile) ((file_at t from).1 file))
 
 -- each reason that holds of a copy is the one that is told
 pub copy_reason : (t : Tree) (from p : Path) (r : Reason) → HasNoCopy from p r t → r ≡ no_copy t from p
-copy_reason t from p NoFile h = sym (ap (λ b. cond b (no_place t p) NoFile) (not_true (is_file t from) (λ f. h ((file_at t from).0 f))))
+copy_reason t from p NoFile h = sym (ap (λ b. cond b (no_place t p) NoFile) (false_from_ne_true (is_file t from) (λ f. h ((file_at t from).0 f))))
 copy_reason t from p Exists h = copy_with t from p Exists h.0 h.1
 copy_reason t from p NoFolder h = copy_with t from p NoFolder h.0 h.1
 copy_reason t from p NothingThere h = absurd h.1

@@ -2,10 +2,4 @@
 #![tactic(auto)]
 
 #[cfg(test)]
-mod differences;
-#[cfg(test)]
-mod failures;
-#[cfg(test)]
-mod places;
-#[cfg(test)]
-mod smaller;
+mod tests;

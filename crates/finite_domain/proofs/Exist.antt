@@ -43,7 +43,7 @@ segments [] = []
 segments (p ∷ ps) = p ++ segments ps
 
 -- a segment of a path stands in it
-within : (front : Path) (s : Segment) (back : Path) → is_text_among s (front ++ s ∷ back) ≡ true
+pub within : (front : Path) (s : Segment) (back : Path) → is_text_among s (front ++ s ∷ back) ≡ true
 within front s back = among_right s front (s ∷ back) (or_left _ _ (text_itself s s refl))
 
 -- a segment of a path of the list is among the segments of all

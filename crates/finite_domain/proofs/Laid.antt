@@ -15,16 +15,12 @@ use Rattle.finite_domain.specs.Domains.{text_eq, is_text_among, SpeakOf, IsNamed
 use Rattle.finite_domain.specs.Layouts.{all_texts, first_uses, letters, other_segment, stem, IsFreshChild, numbered, Layout, fresh_paths, domain_of, IsLayout}
 use Rattle.finite_domain.proofs.Matters.{all_mentioned, all_listed}
 use Rattle.finite_domain.proofs.Texts.{text_same, text_itself, among_append, among_left, among_right, first_uses_are, place, place_below, one_place, numbers, number_among, among_numbers}
+use Rattle.fs_semantics.proofs.Counts.{all_append}
 
 -- what holds of the letter x holds of so many of them
 pub all_letters : (P : ℕ → Type 0) → P 120 → (n : ℕ) → AllByRecursion P (letters n)
 all_letters P x zero = tt
 all_letters P x (suc n) = (x, all_letters P x n)
-
--- what holds of all of two lists holds of all of both joined
-all_joined : (P : ℕ → Type 0) (xs ys : List ℕ) → AllByRecursion P xs → AllByRecursion P ys → AllByRecursion P (xs ++ ys)
-all_joined P [] ys h k = k
-all_joined P (x ∷ xs) ys h k = (h.0, all_joined P xs ys h.1 k)
 
 -- ASCII is made of bytes
 ascii_bytes : (xs : List ℕ) → IsAscii xs → IsBytes xs
@@ -32,7 +28,7 @@ ascii_bytes [] h = tt
 ascii_bytes (x ∷ xs) h = let first : x < 128 = h 0 in (omega (arith, first), ascii_bytes xs (λ i. h (suc i)))
 
 -- what the fresh children may be called is a segment
-other_is_segment : (n : ℕ) → IsSegment (other_segment n)
+pub other_is_segment : (n : ℕ) → IsSegment (other_segment n)
 other_is_segment n = record {
   bytes = (omega arith, (omega arith, (omega arith, (omega arith, (omega arith, all_letters (λ b. b < 256) (omega arith) n)))));
   nonempty = λ e. cc;
@@ -88,7 +84,7 @@ module _ (es : List Program) (l : Layout) (laid : IsLayout es l) where
   unfolding text
   bytes p h =
       let below = place_below p l.paths (path_among p h) in
-      all_joined (λ b. b < 256) (stem laid.start) (decimal (place p l.paths))
+      all_append (λ b. b < 256) (stem laid.start) (decimal (place p l.paths))
       (omega arith, (omega arith, (omega arith, (omega arith, all_letters (λ b. b < 256) (omega arith) laid.start))))
       (ascii_bytes (decimal (place p l.paths)) (IsAscii-decimal (place p l.paths) (omega (arith, laid.few))))
 

@@ -257,7 +257,7 @@ is_front (s ∷ []) more h = or_left _ _ (path_eq_refl (s ∷ []))
 is_front (s ∷ r ∷ q) more h = or_right (path_eq (s ∷ r ∷ q) (s ∷ [])) _ (in_mapped s (r ∷ q) (fronts (r ∷ q ++ more)) (is_front (r ∷ q) more (λ e. cc)))
 
 -- a front of several paths is a front of one
-front_of : (q : Path) (ps : List Path) → is_among q (all_fronts ps) ≡ true → (p : Path) × IsTrue (is_among p ps) × IsTrue (is_among q (fronts p))
+pub front_of : (q : Path) (ps : List Path) → is_among q (all_fronts ps) ≡ true → (p : Path) × IsTrue (is_among p ps) × IsTrue (is_among q (fronts p))
 front_of q [] h = cc
 front_of q (p ∷ ps) h = elim (or_cases _ _ (sym (list_any-append (path_eq q) (fronts p) (all_fronts ps)) ∙ h)) [
   | inl here ↦ (p, or_left _ _ (path_eq_refl p), here)
@@ -265,7 +265,7 @@ front_of q (p ∷ ps) h = elim (or_cases _ _ (sym (list_any-append (path_eq q) (
 ]
 
 -- and a front of one is a front of them
-among_fronts : (q p : Path) (ps : List Path) → is_among p ps ≡ true → is_among q (fronts p) ≡ true → is_among q (all_fronts ps) ≡ true
+pub among_fronts : (q p : Path) (ps : List Path) → is_among p ps ≡ true → is_among q (fronts p) ≡ true → is_among q (all_fronts ps) ≡ true
 among_fronts q p [] h k = cc
 among_fronts q p (r ∷ ps) h k = list_any-append (path_eq q) (fronts r) (all_fronts ps) ∙ elim (or_cases (path_eq p r) (is_among p ps) h) [
   | inl here ↦ or_left _ _ (ap (λ x. is_among q (fronts x)) (sym (path_eq_same p r here)) ∙ k)

@@ -47,7 +47,7 @@ either true b = refl
 either false b = refl
 
 -- that texts are the same holds either way round
-text_eq_sym : (c d : List ℕ) → text_eq c d ≡ text_eq d c
+pub text_eq_sym : (c d : List ℕ) → text_eq c d ≡ text_eq d c
 text_eq_sym c d = elim (cases_Bool (text_eq c d)) [
   | inl is ↦ is ∙ sym (text_itself d c (sym (text_same c d is)))
   | inr other ↦ other ∙ sym (false_from_ne_true _ (λ h. both_ways _ other (text_itself c d (sym (text_same d c h)))))

@@ -3,16 +3,12 @@ use Rattle.std.proofs.Common.{◌≡◌, ◌≢◌, ◌⊎◌, inl, inr, ℕ, ze
 use Rattle.std.specs.Prelude.{IfSome}
 use Rattle.std.proofs.lemmas.Option.{slice_get_within}
 use Rattle.fs_semantics.specs.FileTree.{Path, path_eq, parent}
-use Rattle.fs_semantics.proofs.Trees.{path_eq_refl, path_eq_other, parent_differs}
+use Rattle.fs_semantics.proofs.Trees.{path_eq_refl, path_eq_other}
 use Rattle.fs_interpreter.specs.Places.{Listed, IsTable, HasPath, place_in, content_place, children_in}
 use Rattle.fs_interpreter.specs.Growth.{Seen, linked, linked_top}
 use Rattle.fs_interpreter.proofs.SearchLaws.{place_below, place_there, place_found, place_nowhere, no_children, content_there, content_found}
 use Rattle.fs_interpreter.proofs.KeptLists.{KeptLists, Was, get_cases, get_front, place_front, place_last, children_last, linked_paths, linked_was, paths_append}
-
--- a path but the root differs from its parent
-pub own_parent : (p : Path) → p ≢ [] → parent p ≢ p
-own_parent [] n h = n refl
-own_parent (s ∷ p) n h = parent_differs s p h
+use Rattle.fs_semantics.proofs.ConstructLaws.{parent_other}
 
 -- a path that isn't there is none that is
 other : (table : Listed) (p r : Path) → HasPath table r → p ≢ [] → place_in table.paths p ≡ None → p ≢ r
@@ -98,7 +94,7 @@ module _ (paths : List Path) (contents : List (List ℕ)) (p : Path) (is : IsTab
       ]
       | inr b ↦ elim (get_cases paths p q i h) [
         | inl a ↦ absurd (other told p (parent q) (is.parents i q a) not_root none b.1)
-        | inr a ↦ absurd (own_parent p not_root (ap parent a.1 ∙ sym b.1))
+        | inr a ↦ absurd (parent_other p not_root (ap parent a.1 ∙ sym b.1))
       ]
     ];
     contents_once = is.contents_once;
@@ -165,7 +161,7 @@ module _ (paths : List Path) (contents : List (List ℕ)) (p : Path) (is : IsTab
     new_children children (inl here) =
         let below = subst (λ o. IfSome o (λ i. i < length paths)) here.0 (place_below paths (parent p)) in
         let s = size in absurd (omega arith)
-    new_children children (inr not) = not.1 ∙ no_children told p is not_root none ∙ sym (no_more p (own_parent p not_root))
+    new_children children (inr not) = not.1 ∙ no_children told p is not_root none ∙ sym (no_more p (parent_other p not_root))
 
     -- each of the linked nodes is one of before or the new one, with a child more at the place above
     was : (k : ℕ) (s : Seen) → slice_get (linked above (length nodes) (nodes ++ node ∷ [])) k ≡ Some s → Was above (length nodes) (nodes ++ node ∷ []) k s

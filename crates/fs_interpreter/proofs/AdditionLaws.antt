@@ -3,7 +3,8 @@ use Rattle.std.proofs.Common.{◌≡◌, ◌⊎◌, inl, inr, ℕ, List, [], ◌
 use Rattle.fs_semantics.specs.FileTree.{Path}
 use Rattle.fs_interpreter.specs.Places.{Listed, HasPath, HasContent, Keeps, place_in, content_place, or_added, with_path, with_content}
 use Rattle.fs_interpreter.proofs.SearchLaws.{place_there, content_there}
-use Rattle.fs_interpreter.proofs.KeptLists.{get_front, get_last}
+use Rattle.fs_interpreter.proofs.KeptLists.{get_front}
+use Rattle.rh_base.proofs.Lists.{get_last}
 
 -- what stands in a list stands there still when one is added that wasn't there
 kept : {X : Type 0} (o : Option ℕ) (xs : List X) (x y : X) (i : ℕ) → slice_get xs i ≡ Some y → slice_get (or_added o xs x) i ≡ Some y

@@ -1,5 +1,5 @@
 -- Cells kept aside, put back and chosen.
-use Rattle.std.proofs.Common.{◌≡◌, ℕ, zero, suc, ◌+◌, ◌<◌, ◌==◌, Bool, true, false, cond, List, [], ◌∷◌, ◌++◌, length, get_or, drop, refl, sym, ap, subst, ◌∙◌, arith, eqb-true, append_assoc, add-one, drop-cons}
+use Rattle.std.proofs.Common.{◌≡◌, ℕ, zero, suc, ◌+◌, ◌<◌, ◌==◌, Bool, true, false, cond, List, [], ◌∷◌, ◌++◌, length, get_or, drop, refl, sym, ap, subst, ◌∙◌, arith, eqb-true, append_assoc}
 use Rattle.std.specs.Prelude.{◌||◌}
 use Rattle.std.specs.List.{AllByRecursion}
 use Rattle.fs_interpreter.specs.Meanings.{Valuation, Meanings, Grows, grows_same}
@@ -14,6 +14,7 @@ use Rattle.fs_interpreter.specs.declared.branch.Kept.{Kept}
 use Rattle.fs_interpreter.proofs.Frames.{cells_keep, cells_stay}
 use Rattle.fs_interpreter.proofs.Put.{put_cells, put_told, one_keeps}
 use Rattle.std.proofs.lemmas.List.{length-set}
+use Rattle.rh_base.proofs.Lists.{drop_step}
 
 -- bits of one place that are one's own tell what they mean
 pub own_again : {B Bit Code : Type 0} (m : Meanings Bit Code) (f : Valuation → Cell) (c : OneCell B Bit Code) → IsOne m f c → IsOne m (λ v. one_told m v c) c
@@ -120,10 +121,6 @@ chosen_is true places f g h = λ t j. (where_true places f g j ∙ by_case j (ha
 chosen_is false places f g h = λ t j. where_false places f g j t
 
 -- ---- steps of the loops
-
--- what is left from a place on is the entry there and what is left behind it
-pub drop_step : {X : Type 0} (xs : List X) (i : ℕ) (d x : X) → i < length xs → x ≡ get_or xs i d → drop i xs ≡ x ∷ drop (i + 1) xs
-drop_step xs i d x h e = drop-cons xs i d h ∙ (λ t. sym e t ∷ drop (suc i) xs) ∙ ap (λ n. x ∷ drop n xs) (sym (add-one i))
 
 -- what holds of all numbers of a list holds of the one at a place
 pub all_at : (P : ℕ → Type 0) (xs : List ℕ) (i : ℕ) → AllByRecursion P xs → i < length xs → P (get_or xs i 0)

@@ -7,14 +7,10 @@ use Rattle.std.specs.List.Sorted.{IsPermutation}
 use Rattle.std.proofs.lemmas.List.Sorted.{Contains-permutation}
 use Rattle.fs_interpreter.specs.Places.{has}
 use Rattle.fs_interpreter.proofs.StepLaws.{has_append}
-
--- a disjunction with false is its other side
-or_false : (a : Bool) → (a || false) ≡ a
-or_false true = refl
-or_false false = refl
+use Rattle.std.proofs.Math.Bool.{or-false}
 
 -- a number is itself
-same_number : (n : ℕ) → (n == n) ≡ true
+pub same_number : (n : ℕ) → (n == n) ≡ true
 same_number n = elim (n == n) as (λ b. (n == n) ≡ b → b ≡ true) [ true ↦ λ k. refl | false ↦ λ k. absurd (eqb-false n n k refl) ] refl
 
 -- what stands at a place of a list is in it
@@ -27,12 +23,12 @@ has_at (x ∷ xs) (suc k) i h = elim (i == x) as (λ b. (b || has i xs) ≡ true
 pub has_already : (xs : List ℕ) (i j : ℕ) → has i xs ≡ true → has j xs ≡ (has j xs || (j == i))
 has_already xs i j h = elim (j == i) as (λ b. (j == i) ≡ b → has j xs ≡ (has j xs || b)) [
   | true ↦ λ e. (let there : has j xs ≡ true = ap (λ n. has n xs) (eqb-true j i e) ∙ h in there ∙ sym (ap (λ b. b || true) there))
-  | false ↦ λ e. sym (or_false (has j xs))
+  | false ↦ λ e. sym (or-false (has j xs))
 ] refl
 
 -- a number is in a list with one more exactly where it was there, or is that one
 pub has_snoc : (xs : List ℕ) (i j : ℕ) → has j (xs ++ i ∷ []) ≡ (has j xs || (j == i))
-has_snoc xs i j = has_append j xs (i ∷ []) ∙ ap (λ b. has j xs || b) (or_false (j == i))
+has_snoc xs i j = has_append j xs (i ∷ []) ∙ ap (λ b. has j xs || b) (or-false (j == i))
 
 -- what holds of all numbers of a list holds of each that is in it
 pub has_all : (P : ℕ → Type 0) (xs : List ℕ) (j : ℕ) → AllByRecursion P xs → has j xs ≡ true → P j

@@ -32,11 +32,6 @@ get_front [] ys y i h = cc
 get_front (x ∷ xs) ys y zero h = h
 get_front (x ∷ xs) ys y (suc i) h = get_front xs ys y i h
 
--- the last one stands at the end
-pub get_last : {X : Type 0} (xs : List X) (x : X) → slice_get (xs ++ x ∷ []) (length xs) ≡ Some x
-get_last [] x = refl
-get_last (y ∷ xs) x = get_last xs x
-
 -- a path that is found is found at the same place when one more comes behind
 pub place_front : (paths : List Path) (p q : Path) (i : ℕ) → place_in paths q ≡ Some i → place_in (paths ++ p ∷ []) q ≡ Some i
 place_front [] p q i h = cc

@@ -10,10 +10,11 @@ use Rattle.fs_interpreter.specs.Kept.{paths_of, listed, IsKept}
 use Rattle.fs_interpreter.specs.Growth.{Seen, seen, seen_all, linked, linked_top}
 use Rattle.fs_interpreter.specs.declared.table.Node.{Node}
 use Rattle.fs_interpreter.specs.declared.table.Table.TheInside.{Inside}
-use Rattle.fs_interpreter.proofs.KeptLists.{KeptLists, linked_paths, paths_append, get_last}
+use Rattle.fs_interpreter.proofs.KeptLists.{KeptLists, linked_paths, paths_append}
 use Rattle.fs_interpreter.proofs.SearchLaws.{place_there, place_found, content_there, content_found}
 use Rattle.fs_interpreter.proofs.AddedLaws.{path_more, content_more}
 use Rattle.fs_interpreter.proofs.TableLaws.{length-paths}
+use Rattle.rh_base.proofs.Lists.{get_last}
 
 -- what is seen at a place is what is seen of the node there
 seen_at : (nodes : List Node) (i : ℕ) (n : Node) → slice_get nodes i ≡ Some n → slice_get (seen_all nodes) i ≡ Some (seen n)

@@ -1,6 +1,6 @@
 -- What a program makes of cells that stand for a tree stands for what it makes of the tree.
 use Rattle.std.proofs.Common.{◌≡◌, ◌≢◌, inl, inr, ℕ, ◌==◌, Bool, true, false, cond, List, [], ◌∷◌, Option, Some, None, refl, sym, ap, subst, ◌∙◌, eqb-true}
-use Rattle.std.proofs.lemmas.Bool.{eqb-false}
+use Rattle.std.proofs.lemmas.Bool.{eqb-false, or_right, or_from}
 use Rattle.std.specs.Prelude.{not, ◌&&◌, ◌||◌, slice_get}
 use Rattle.std.specs.FinMap as map
 use Rattle.fs_semantics.specs.FileTree.{Path, Entry, Folder, File, Link as LinkTo, Tree, parent, is_root, is_file_entry, is_link_entry, is_folder_entry, is_file, is_link, is_dir, is_none, is_empty_dir}
@@ -14,16 +14,6 @@ use Rattle.fs_interpreter.proofs.SearchLaws.{place_there, content_there, content
 use Rattle.fs_interpreter.proofs.StepLaws.{error_stays, error_stays_in_all}
 use Rattle.fs_interpreter.proofs.TestLaws.{Seen, seen, dir_is, none_is, any_is, cell_file, told_is}
 
--- a disjunction with a true right side is true
-or_right : (a b : Bool) → b ≡ true → (a || b) ≡ true
-or_right true b h = refl
-or_right false b h = h
-
--- a disjunction of two that are false is false
-neither : (a b : Bool) → a ≡ false → b ≡ false → (a || b) ≡ false
-neither true b h k = h
-neither false b h k = k
-
 -- the parent of a path that is the root or in the table is so too
 parent_covered : (table : Listed) (p : Path) → IsTable table → HasPath table p → HasPath table (parent p)
 parent_covered table p is (inl e) = inl (ap parent e)
@@ -33,7 +23,7 @@ parent_covered table p is (inr h) = is.parents h.0 p h.1
 changed : (table : Listed) (s : State) (t u : Tree) (p : Path) (i : ℕ) (c : Cell) (ok : Bool) → IsTable table → Stands table s t → place_in table.paths p ≡ Some i → ok ≡ true
     → Tells table.contents c (map.get u p) → ((q : Path) → q ≢ p → map.get u q ≡ map.get t q) → Stands table (record { cell = with_cell i c s.cell; error = s.error || not ok }) u
 changed table s t u p i c ok is st at fine here others = record {
-  no_error = neither s.error (not ok) st.no_error (ap not fine);
+  no_error = or_from s.error (not ok) st.no_error (ap not fine);
   tells = λ j q h. elim (j == i) as (λ b. (j == i) ≡ b → Tells table.contents (cond b c (s.cell j)) (map.get u q)) [
     | true ↦ λ e. (let two : ◌≡◌ {A = Option Path} (Some q) (Some p) = sym h ∙ ap (slice_get table.paths) (eqb-true j i e) ∙ place_there table.paths p i at in
         let same : p ≡ q = cc in subst (λ r. Tells table.contents c (map.get u r)) same here)
@@ -57,7 +47,7 @@ free_is table s t p is st h =
     (λ i. here i && above i)
 
 -- of a conjunction that is true the left side is true
-first : (a b : Bool) → (a && b) ≡ true → a ≡ true
+pub first : (a b : Bool) → (a && b) ≡ true → a ≡ true
 first true b h = refl
 first false b h = h
 
@@ -93,7 +83,7 @@ not_root [] h = absurd (h refl)
 not_root (s ∷ p) h = refl
 
 -- a path but the root is a folder where its entry is one
-dir_entry : (t : Tree) (p : Path) → p ≢ [] → is_dir t p ≡ is_folder_entry (map.get t p)
+pub dir_entry : (t : Tree) (p : Path) → p ≢ [] → is_dir t p ≡ is_folder_entry (map.get t p)
 dir_entry t [] h = absurd (h refl)
 dir_entry t (s ∷ p) h = refl
 

@@ -6,13 +6,10 @@ use Rattle.fs_semantics.specs.FileTree.{Path}
 use Rattle.fs_semantics.specs.Programs.{Program, Programs, Id, Err, Mkdir, Creat, Link, Rm, Cp, Steps, If, none, next}
 use Rattle.fs_interpreter.specs.Places.{Listed, place_in, has}
 use Rattle.fs_interpreter.specs.States.{Cell, State}
-use Rattle.fs_interpreter.specs.Steps.{file_at, file_cell, any_present, put, if_any, removed_at, copied_at, told, stepped, all_stepped, written, all_written}
+use Rattle.fs_interpreter.specs.Steps.{file_at, file_cell, any_present, put, if_any, removed_at, copied_at, holds_in, stepped, all_stepped, written, all_written}
 use Rattle.fs_interpreter.proofs.SearchLaws.{place_below}
-
--- what holds of all numbers of two lists holds of all of both joined
-all_append : (P : ℕ → Type 0) (xs ys : List ℕ) → AllByRecursion P xs → AllByRecursion P ys → AllByRecursion P (xs ++ ys)
-all_append P [] ys a b = b
-all_append P (x ∷ xs) ys a b = (a.0, all_append P xs ys a.1 b)
+use Rattle.std.proofs.lemmas.Bool.{or_right, or_left as or_true, or_left}
+use Rattle.fs_semantics.proofs.Counts.{all_append}
 
 -- a place below a bound, if there is one, is all that is listed
 any_below : (n : ℕ) (o : Option ℕ) → IfSome o (λ i. i < n) → AllByRecursion (λ i. i < n) (if_any o)
@@ -90,7 +87,7 @@ mutual
   stays_elsewhere table (Steps es) s j h = all_stay_elsewhere table es s j h
   stays_elsewhere table (If a e f) s j h =
       let either = sym (has_append j (written table.paths e) (written table.paths f)) ∙ h in
-      elim (told table a s.cell) as (λ b. (cond b (stepped table e s) (stepped table f s)).cell j ≡ s.cell j) [
+      elim (holds_in table a s.cell) as (λ b. (cond b (stepped table e s) (stepped table f s)).cell j ≡ s.cell j) [
         | true ↦ stays_elsewhere table e s j (left_out _ _ either)
         | false ↦ stays_elsewhere table f s j (right_out _ _ either)
       ]
@@ -101,11 +98,6 @@ mutual
   all_stay_elsewhere table (next e es) s j h =
       let either = sym (has_append j (written table.paths e) (all_written table.paths es)) ∙ h in
       all_stay_elsewhere table es (stepped table e s) j (right_out _ _ either) ∙ stays_elsewhere table e s j (left_out _ _ either)
-
--- after Error all is Error
-or_true : (a b : Bool) → a ≡ true → (a || b) ≡ true
-or_true true b h = refl
-or_true false b h = cc
 
 -- a put after Error is Error
 put_errs : (o : Option ℕ) (ok : Bool) (c : Cell) (s : State) → s.error ≡ true → (put o ok c s).error ≡ true
@@ -133,7 +125,7 @@ mutual
   error_stays table (Rm p) s h = removed_errs (place_in table.paths p) _ s h
   error_stays table (Cp p q) s h = copied_errs (place_in table.paths p) (place_in table.paths q) _ s h
   error_stays table (Steps es) s h = error_stays_in_all table es s h
-  error_stays table (If a e f) s h = elim (told table a s.cell) as (λ b. (cond b (stepped table e s) (stepped table f s)).error ≡ true) [
+  error_stays table (If a e f) s h = elim (holds_in table a s.cell) as (λ b. (cond b (stepped table e s) (stepped table f s)).error ≡ true) [
     | true ↦ error_stays table e s h
     | false ↦ error_stays table f s h
   ]
@@ -152,16 +144,6 @@ absent false b h e = refl
 pub leaves_others : (table : Listed) (e : Program) (places : List ℕ) → ((j : ℕ) → has j (written table.paths e) ≡ true → has j places ≡ true)
     → (s : State) (j : ℕ) → has j places ≡ false → (stepped table e s).cell j ≡ s.cell j
 leaves_others table e places all s j other = stays_elsewhere table e s j (absent (has j (written table.paths e)) (has j places) (all j) other)
-
--- a disjunction with a true left side is true
-or_left : (a b : Bool) → a ≡ true → (a || b) ≡ true
-or_left true b h = refl
-or_left false b h = cc
-
--- a disjunction with a true right side is true
-or_right : (a b : Bool) → b ≡ true → (a || b) ≡ true
-or_right true b h = refl
-or_right false b h = h
 
 -- what is in the first list is in both joined
 pub in_first : (j : ℕ) (xs ys : List ℕ) → has j xs ≡ true → has j (xs ++ ys) ≡ true

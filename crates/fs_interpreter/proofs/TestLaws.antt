@@ -11,9 +11,11 @@ use Rattle.fs_semantics.proofs.Trees.{path_eq_same, path_eq_refl}
 use Rattle.fs_semantics.proofs.ConstructLaws.{child_found}
 use Rattle.fs_interpreter.specs.Places.{Listed, IsTable, HasPath, CoversTest, place_in, children_from, children_in}
 use Rattle.fs_interpreter.specs.States.{Cell, State}
-use Rattle.fs_interpreter.specs.Steps.{Cellwise, file_at, link_at, dir_at, none_at, any_present, empty_at, told}
+use Rattle.fs_interpreter.specs.Steps.{Cellwise, file_at, link_at, dir_at, none_at, any_present, empty_at, holds_in}
 use Rattle.fs_interpreter.specs.Standing.{Tells, Stands}
 use Rattle.fs_interpreter.proofs.SearchLaws.{place_there, place_found, place_nowhere}
+use Rattle.std.proofs.lemmas.Bool.{or_right, or_left, or_cases}
+use Rattle.fs_semantics.proofs.Keys.{same_bool}
 
 -- ---- one cell
 
@@ -97,27 +99,6 @@ none_is table s t p (inr h) = ap (λ o. none_at o s.cell) h.1 ∙ cell_none tabl
 
 -- ---- children
 
--- of a disjunction that is true one side is true
-or_split : (a b : Bool) → (a || b) ≡ true → (a ≡ true) ⊎ (b ≡ true)
-or_split true b h = inl refl
-or_split false b h = inr h
-
--- a disjunction with a true left side is true
-or_left : (a b : Bool) → a ≡ true → (a || b) ≡ true
-or_left true b h = refl
-or_left false b h = cc
-
--- a disjunction with a true right side is true
-or_right : (a b : Bool) → b ≡ true → (a || b) ≡ true
-or_right true b h = refl
-or_right false b h = h
-
--- truth values that imply one another are the same
-same_bool : (a b : Bool) → (a ≡ true → b ≡ true) → (b ≡ true → a ≡ true) → a ≡ b
-same_bool true b f g = sym (f refl)
-same_bool false true f g = g refl
-same_bool false false f g = refl
-
 -- a child that is present
 abbrev Child : List Path → Path → (ℕ → Bool) → Type 0
 Child paths p there = (i : ℕ) × (q : Path) × (slice_get paths i ≡ Some q) × (parent q ≡ p) × (there i ≡ true)
@@ -130,7 +111,7 @@ further k q paths p cell c = let same : suc k + c.0 ≡ k + suc c.0 = omega arit
 child_from : (k : ℕ) (paths : List Path) (p : Path) (cell : Cellwise) → any_present (children_from k paths p) cell ≡ true → Child paths p (λ i. (cell (k + i)).present)
 child_from k [] p cell h = cc
 child_from k (q ∷ paths) p cell h = elim (path_eq (parent q) p) as (λ b. path_eq (parent q) p ≡ b → any_present (cond b (k ∷ children_from (suc k) paths p) (children_from (suc k) paths p)) cell ≡ true → Child (q ∷ paths) p (λ i. (cell (k + i)).present)) [
-  | true ↦ λ e l. elim (or_split (cell k).present (any_present (children_from (suc k) paths p) cell) l) [
+  | true ↦ λ e l. elim (or_cases (cell k).present (any_present (children_from (suc k) paths p) cell) l) [
     | inl here ↦ (let same : k + 0 ≡ k = omega arith in (0, q, refl, path_eq_same (parent q) p e, ap (λ i. (cell i).present) same ∙ here))
     | inr more ↦ further k q paths p cell (child_from (suc k) paths p cell more)
   ]
@@ -163,7 +144,7 @@ some_entry contents c (Some (LinkTo x)) h = h.0
 -- where some key has this path as its parent, there is such a key
 any_key : (p : Path) (ks : List Path) → list_any (λ q. path_eq (parent q) p) ks ≡ true → (q : Path) × (parent q ≡ p) × (list_any (eq_by_cmp path_cmp q) ks ≡ true)
 any_key p [] h = cc
-any_key p (k ∷ ks) h = elim (or_split (path_eq (parent k) p) (list_any (λ q. path_eq (parent q) p) ks) h) [
+any_key p (k ∷ ks) h = elim (or_cases (path_eq (parent k) p) (list_any (λ q. path_eq (parent q) p) ks) h) [
   | inl here ↦ (k, path_eq_same (parent k) p here, or_left _ _ (path_eq_refl k))
   | inr more ↦ (let found = any_key p ks more in (found.0, found.1, or_right (eq_by_cmp path_cmp found.0 k) _ found.2))
 ]
@@ -193,7 +174,7 @@ pub empty_is : (table : Listed) (s : State) (t : Tree) (p : Path) → Stands tab
 empty_is table s t p st h = let dir = dir_is table s t p h in let any = any_is table s t p st in (λ i. dir i && not (any i))
 
 -- a test holds of what the cells tell where it holds in the tree
-pub told_is : (table : Listed) (s : State) (t : Tree) (a : Test) → IsTable table → Stands table s t → CoversTest table a → told table a s.cell ≡ holds a t
+pub told_is : (table : Listed) (s : State) (t : Tree) (a : Test) → IsTable table → Stands table s t → CoversTest table a → holds_in table a s.cell ≡ holds a t
 told_is table s t True is st c = refl
 told_is table s t False is st c = refl
 told_is table s t (Not a) is st c = ap not (told_is table s t a is st c)

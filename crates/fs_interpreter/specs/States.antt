@@ -1,6 +1,7 @@
 -- What cells tell under one valuation, and what they stand for.
-use Rattle.std.specs.Prelude.{◌≡◌, ℕ, Bool, false, length, Option, Some, None, slice_get}
+use Rattle.std.specs.Prelude.{◌≡◌, ℕ, ◌<◌, Bool, false, length, Option, Some, None, IfSome, slice_get}
 use Rattle.fs_interpreter.specs.Meanings.{Valuation, Meanings}
+use Rattle.fs_interpreter.specs.Places.{Listed}
 use Rattle.fs_interpreter.specs.declared.cells.Cells.{Cells}
 
 -- whether there is an entry, whether it is a folder or else a link, and the number of its content or target
@@ -48,3 +49,13 @@ pub record AreCells {B Bit Code : Type 0} (m : Meanings Bit Code) (cells : Cells
   pub link : (i : ℕ) (b : Bit) → slice_get cells.link i ≡ Some b → m.owns b
   pub content : (i : ℕ) (c : Code) → slice_get cells.content i ≡ Some c → m.owns_code c
   pub error : m.owns cells.error
+
+-- cells that fit a table: there are some for each of its places
+pub record Fits {B Bit Code : Type 0} (m : Meanings Bit Code) (table : Listed) (c : Cells B Bit Code) : Type 0 where
+  pub cells : AreCells m c
+  pub places : length c.present ≡ length table.paths
+
+-- cells that can be read where this is, which is one of their places if it is one
+pub record CanReadAt {B Bit Code : Type 0} (m : Meanings Bit Code) (c : Cells B Bit Code) (o : Option ℕ) : Type 0 where
+  pub cells : AreCells m c
+  pub place : IfSome o (λ i. i < length c.present)

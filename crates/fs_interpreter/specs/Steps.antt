@@ -36,17 +36,17 @@ abbrev pub empty_at : Option ℕ → List ℕ → Cellwise → Bool
 empty_at o children cell = dir_at o cell && not (any_present children cell)
 
 -- whether the test holds of what is told
-abbrev pub told : Listed → Test → Cellwise → Bool
-told table True cell = true
-told table False cell = false
-told table (Not a) cell = not (told table a cell)
-told table (And a b) cell = told table a cell && told table b cell
-told table (Or a b) cell = told table a cell || told table b cell
-told table (IsFile p) cell = file_at (place_in table.paths p) cell
-told table (IsLink p) cell = link_at (place_in table.paths p) cell
-told table (IsDir p) cell = dir_at (place_in table.paths p) cell
-told table (IsEmpty p) cell = empty_at (place_in table.paths p) (children_in table.paths p) cell
-told table (IsNone p) cell = none_at (place_in table.paths p) cell
+abbrev pub holds_in : Listed → Test → Cellwise → Bool
+holds_in table True cell = true
+holds_in table False cell = false
+holds_in table (Not a) cell = not (holds_in table a cell)
+holds_in table (And a b) cell = holds_in table a cell && holds_in table b cell
+holds_in table (Or a b) cell = holds_in table a cell || holds_in table b cell
+holds_in table (IsFile p) cell = file_at (place_in table.paths p) cell
+holds_in table (IsLink p) cell = link_at (place_in table.paths p) cell
+holds_in table (IsDir p) cell = dir_at (place_in table.paths p) cell
+holds_in table (IsEmpty p) cell = empty_at (place_in table.paths p) (children_in table.paths p) cell
+holds_in table (IsNone p) cell = none_at (place_in table.paths p) cell
 
 -- one cell is another, the rest stay
 abbrev pub with_cell : ℕ → Cell → Cellwise → Cellwise
@@ -99,7 +99,7 @@ abbrev mutual
   stepped table (Rm p) s = removed_at (place_in table.paths p) (children_in table.paths p) s
   stepped table (Cp p q) s = copied_at (place_in table.paths p) (place_in table.paths q) (free_at table q s.cell) s
   stepped table (Steps es) s = all_stepped table es s
-  stepped table (If a e f) s = if told table a s.cell then stepped table e s else stepped table f s
+  stepped table (If a e f) s = if holds_in table a s.cell then stepped table e s else stepped table f s
 
   pub all_stepped : Listed → Programs → State → State
   all_stepped table none s = s

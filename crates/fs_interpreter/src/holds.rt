@@ -1,9 +1,9 @@
 //! Tests, as bits.
 
-ghost use Rattle.std.specs.Prelude.{◌≡◌, not, ◌&&◌, ◌||◌, length, IfOk};
+ghost use Rattle.std.specs.Prelude.{not, ◌&&◌, ◌||◌, IfOk};
 ghost use Rattle.fs_interpreter.specs.Meanings.{Grows, IsBit};
-ghost use Rattle.fs_interpreter.specs.States.{AreCells, cell_at};
-ghost use Rattle.fs_interpreter.specs.Steps.{told};
+ghost use Rattle.fs_interpreter.specs.States.{AreCells, cell_at, Fits};
+ghost use Rattle.fs_interpreter.specs.Steps.{holds_in};
 ghost use Rattle.fs_lang.specs.Meaning.{test_of};
 
 use crate::bits::Bits;
@@ -22,11 +22,10 @@ pub(crate) fn holds<B: Bits>(
     test: &Test,
     cells: &Cells<B>,
 ) -> Result<B::Bit, NoMemory>
-    requires cells { AreCells (B.meanings bits.old) cells.now }
-    requires places { length cells.now.present ≡ length table.now.paths }
+    requires { Fits (B.meanings bits.old) table.now cells.now }
     ensures gives { IfOk result
         (IsBit (B.meanings bits.new)
-        (λ v. told table.now (test_of test.now) (cell_at (B.meanings bits.old) v cells.now))) }
+        (λ v. holds_in table.now (test_of test.now) (cell_at (B.meanings bits.old) v cells.now))) }
     ensures grows { Grows (B.meanings bits.old) (B.meanings bits.new) }
     ensures cells { AreCells (B.meanings bits.new) cells.now }
 {
@@ -51,11 +50,10 @@ fn fails<B: Bits>(
     a: &Test,
     cells: &Cells<B>,
 ) -> Result<B::Bit, NoMemory>
-    requires cells { AreCells (B.meanings bits.old) cells.now }
-    requires places { length cells.now.present ≡ length table.now.paths }
+    requires { Fits (B.meanings bits.old) table.now cells.now }
     ensures gives { IfOk result
         (IsBit (B.meanings bits.new)
-        (λ v. not (told table.now (test_of a.now) (cell_at (B.meanings bits.old) v cells.now)))) }
+        (λ v. not (holds_in table.now (test_of a.now) (cell_at (B.meanings bits.old) v cells.now)))) }
     ensures grows { Grows (B.meanings bits.old) (B.meanings bits.new) }
     ensures cells { AreCells (B.meanings bits.new) cells.now }
 {
@@ -71,11 +69,10 @@ fn both_hold<B: Bits>(
     b: &Test,
     cells: &Cells<B>,
 ) -> Result<B::Bit, NoMemory>
-    requires cells { AreCells (B.meanings bits.old) cells.now }
-    requires places { length cells.now.present ≡ length table.now.paths }
+    requires { Fits (B.meanings bits.old) table.now cells.now }
     ensures gives { IfOk result
         (IsBit (B.meanings bits.new)
-        (λ v. told table.now (test_of a.now) (cell_at (B.meanings bits.old) v cells.now) && told table.now
+        (λ v. holds_in table.now (test_of a.now) (cell_at (B.meanings bits.old) v cells.now) && holds_in table.now
         (test_of b.now) (cell_at (B.meanings bits.old) v cells.now))) }
     ensures grows { Grows (B.meanings bits.old) (B.meanings bits.new) }
     ensures cells { AreCells (B.meanings bits.new) cells.now }
@@ -93,11 +90,10 @@ fn one_holds<B: Bits>(
     b: &Test,
     cells: &Cells<B>,
 ) -> Result<B::Bit, NoMemory>
-    requires cells { AreCells (B.meanings bits.old) cells.now }
-    requires places { length cells.now.present ≡ length table.now.paths }
+    requires { Fits (B.meanings bits.old) table.now cells.now }
     ensures gives { IfOk result
         (IsBit (B.meanings bits.new)
-        (λ v. told table.now (test_of a.now) (cell_at (B.meanings bits.old) v cells.now) || told table.now
+        (λ v. holds_in table.now (test_of a.now) (cell_at (B.meanings bits.old) v cells.now) || holds_in table.now
         (test_of b.now) (cell_at (B.meanings bits.old) v cells.now))) }
     ensures grows { Grows (B.meanings bits.old) (B.meanings bits.new) }
     ensures cells { AreCells (B.meanings bits.new) cells.now }

@@ -3,7 +3,7 @@
 ghost use Rattle.std.specs.Prelude.{◌<◌, ◌||◌, length, Some, IfOk, IfSome};
 ghost use Rattle.std.specs.List.{AllByRecursion};
 ghost use Rattle.fs_interpreter.specs.Meanings.{Grows, IsBit};
-ghost use Rattle.fs_interpreter.specs.States.{AreCells, cell_at};
+ghost use Rattle.fs_interpreter.specs.States.{AreCells, cell_at, CanReadAt};
 ghost use Rattle.fs_interpreter.specs.Steps.{file_at, link_at, dir_at, none_at, any_present, empty_at};
 
 use crate::bits::Bits;
@@ -43,8 +43,7 @@ pub(crate) fn dir_at<B: Bits>(
     cells: &Cells<B>,
     place: Option<usize>,
 ) -> Result<B::Bit, NoMemory>
-    requires cells { AreCells (B.meanings bits.old) cells.now }
-    requires place { IfSome place (λ i. i < length cells.now.present) }
+    requires { CanReadAt (B.meanings bits.old) cells.now place }
     ensures gives { IfOk result (IsBit (B.meanings bits.new) (λ v. dir_at place (cell_at (B.meanings bits.old) v cells.now))) }
     ensures grows { Grows (B.meanings bits.old) (B.meanings bits.new) }
     ensures cells { AreCells (B.meanings bits.new) cells.now }
@@ -73,8 +72,7 @@ pub(crate) fn file_at<B: Bits>(
     cells: &Cells<B>,
     place: Option<usize>,
 ) -> Result<B::Bit, NoMemory>
-    requires cells { AreCells (B.meanings bits.old) cells.now }
-    requires place { IfSome place (λ i. i < length cells.now.present) }
+    requires { CanReadAt (B.meanings bits.old) cells.now place }
     ensures gives { IfOk result (IsBit (B.meanings bits.new) (λ v. file_at place (cell_at (B.meanings bits.old) v cells.now))) }
     ensures grows { Grows (B.meanings bits.old) (B.meanings bits.new) }
     ensures cells { AreCells (B.meanings bits.new) cells.now }
@@ -102,8 +100,7 @@ pub(crate) fn link_at<B: Bits>(
     cells: &Cells<B>,
     place: Option<usize>,
 ) -> Result<B::Bit, NoMemory>
-    requires cells { AreCells (B.meanings bits.old) cells.now }
-    requires place { IfSome place (λ i. i < length cells.now.present) }
+    requires { CanReadAt (B.meanings bits.old) cells.now place }
     ensures gives { IfOk result (IsBit (B.meanings bits.new) (λ v. link_at place (cell_at (B.meanings bits.old) v cells.now))) }
     ensures grows { Grows (B.meanings bits.old) (B.meanings bits.new) }
     ensures cells { AreCells (B.meanings bits.new) cells.now }
@@ -120,8 +117,7 @@ pub(crate) fn none_at<B: Bits>(
     cells: &Cells<B>,
     place: Option<usize>,
 ) -> Result<B::Bit, NoMemory>
-    requires cells { AreCells (B.meanings bits.old) cells.now }
-    requires place { IfSome place (λ i. i < length cells.now.present) }
+    requires { CanReadAt (B.meanings bits.old) cells.now place }
     ensures gives { IfOk result (IsBit (B.meanings bits.new) (λ v. none_at place (cell_at (B.meanings bits.old) v cells.now))) }
     ensures grows { Grows (B.meanings bits.old) (B.meanings bits.new) }
     ensures cells { AreCells (B.meanings bits.new) cells.now }

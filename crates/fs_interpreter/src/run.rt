@@ -6,10 +6,10 @@ ghost use Rattle.fs_semantics.specs.Programs.{Outcome, and_then, run};
 ghost use Rattle.fs_interpreter.specs.Meanings.{Valuation, Grows};
 ghost use Rattle.fs_interpreter.specs.Places.{has, Covers};
 ghost use Rattle.fs_interpreter.specs.Standing.{StandsFor};
-ghost use Rattle.fs_interpreter.specs.States.{AreCells, state_of};
+ghost use Rattle.fs_interpreter.specs.States.{AreCells, state_of, Fits};
 ghost use Rattle.fs_interpreter.specs.Changed.{Becomes};
 ghost use Rattle.fs_interpreter.specs.Asides.{IsAside, IsRead};
-ghost use Rattle.fs_interpreter.specs.Steps.{stepped, all_stepped, told, written};
+ghost use Rattle.fs_interpreter.specs.Steps.{stepped, all_stepped, holds_in, written};
 ghost use Rattle.fs_lang.specs.Meaning.{program_of, programs_in, test_of};
 
 use crate::bits::Bits;
@@ -32,8 +32,7 @@ fn step<B: Bits>(
     program: &Program,
     cells: &mut Cells<B>,
 ) -> Result<(), NoMemory>
-    requires cells { AreCells (B.meanings bits.old) cells.old }
-    requires places { length cells.old.present ≡ length table.now.paths }
+    requires { Fits (B.meanings bits.old) table.now cells.old }
     ensures changes { OnOk result
         (Becomes (B.meanings bits.old) (B.meanings bits.new) cells.old cells.new
         (λ v s. stepped table.now (program_of program.now) s)) }
@@ -60,8 +59,7 @@ fn step_all<B: Bits>(
     programs: &[Program],
     cells: &mut Cells<B>,
 ) -> Result<(), NoMemory>
-    requires cells { AreCells (B.meanings bits.old) cells.old }
-    requires places { length cells.old.present ≡ length table.now.paths }
+    requires { Fits (B.meanings bits.old) table.now cells.old }
     ensures changes { OnOk result
         (Becomes (B.meanings bits.old) (B.meanings bits.new) cells.old cells.new
         (λ v s. all_stepped table.now (programs_in programs.now) s)) }
@@ -84,11 +82,10 @@ fn branch<B: Bits>(
     f: &Program,
     cells: &mut Cells<B>,
 ) -> Result<(), NoMemory>
-    requires cells { AreCells (B.meanings bits.old) cells.old }
-    requires places { length cells.old.present ≡ length table.now.paths }
+    requires { Fits (B.meanings bits.old) table.now cells.old }
     ensures changes { OnOk result
         (Becomes (B.meanings bits.old) (B.meanings bits.new) cells.old cells.new
-        (λ v s. if told table.now (test_of a.now) s.cell then stepped table.now
+        (λ v s. if holds_in table.now (test_of a.now) s.cell then stepped table.now
         (program_of e.now) s else stepped table.now (program_of f.now) s)) }
     ensures grows { Grows (B.meanings bits.old) (B.meanings bits.new) }
 {

@@ -3,7 +3,7 @@
 ghost use Rattle.std.specs.Prelude.{◌≡◌, ◌<◌, length, Some, true, false, IfOk, OnOk, not, ◌&&◌, IfSome};
 ghost use Rattle.std.specs.List.{AllByRecursion};
 ghost use Rattle.fs_interpreter.specs.Meanings.{Grows, IsBit};
-ghost use Rattle.fs_interpreter.specs.States.{AreCells, cell_at};
+ghost use Rattle.fs_interpreter.specs.States.{AreCells, cell_at, Fits};
 ghost use Rattle.fs_interpreter.specs.Steps.{dir_at, none_at, file_at as is_file, file_cell, any_present, free_at, failed, put as put_in, removed_at, copied_at};
 ghost use Rattle.fs_interpreter.specs.Places.{place_in, children_in, number_in};
 ghost use Rattle.fs_interpreter.specs.Changed.{IsOne, Becomes, one_told};
@@ -113,8 +113,7 @@ fn free_at<B: Bits>(
     p: &Path,
     cells: &Cells<B>,
 ) -> Result<B::Bit, NoMemory>
-    requires cells { AreCells (B.meanings bits.old) cells.now }
-    requires places { length cells.now.present ≡ length table.now.paths }
+    requires { Fits (B.meanings bits.old) table.now cells.now }
     ensures gives { IfOk result (IsBit (B.meanings bits.new) (λ v. free_at table.now p.now (cell_at (B.meanings bits.old) v cells.now))) }
     ensures grows { Grows (B.meanings bits.old) (B.meanings bits.new) }
 {
@@ -232,8 +231,7 @@ pub(crate) fn remove<B: Bits>(
     p: &Path,
     cells: &mut Cells<B>,
 ) -> Result<(), NoMemory>
-    requires cells { AreCells (B.meanings bits.old) cells.old }
-    requires places { length cells.old.present ≡ length table.now.paths }
+    requires { Fits (B.meanings bits.old) table.now cells.old }
     ensures changes { OnOk result
         (Becomes (B.meanings bits.old) (B.meanings bits.new) cells.old cells.new
         (λ v s. removed_at (place_in table.now.paths p.now) (children_in table.now.paths p.now) s)) }
@@ -315,8 +313,7 @@ pub(crate) fn copy<B: Bits>(
     q: &Path,
     cells: &mut Cells<B>,
 ) -> Result<(), NoMemory>
-    requires cells { AreCells (B.meanings bits.old) cells.old }
-    requires places { length cells.old.present ≡ length table.now.paths }
+    requires { Fits (B.meanings bits.old) table.now cells.old }
     ensures changes { OnOk result
         (Becomes (B.meanings bits.old) (B.meanings bits.new) cells.old cells.new
         (λ v s. copied_at (place_in table.now.paths p.now) (place_in table.now.paths q.now)
@@ -337,8 +334,7 @@ pub(crate) fn add_entry<B: Bits>(
     entry: Entry,
     cells: &mut Cells<B>,
 ) -> Result<(), NoMemory>
-    requires cells { AreCells (B.meanings bits.old) cells.old }
-    requires places { length cells.old.present ≡ length table.now.paths }
+    requires { Fits (B.meanings bits.old) table.now cells.old }
     ensures changes { OnOk result
         (Becomes (B.meanings bits.old) (B.meanings bits.new) cells.old cells.new
         (λ v s. put_in (place_in table.now.paths p.now) (free_at table.now p.now s.cell)

@@ -30,7 +30,7 @@ both_parts true b h k = k
 both_parts false b h k = absurd h
 
 -- what is told to be less is less
-is_less : (o : Ordering) → T (is_lt o) → o ≡ Less
+pub is_less : (o : Ordering) → T (is_lt o) → o ≡ Less
 is_less Less h = refl
 is_less Equal h = absurd h
 is_less Greater h = absurd h

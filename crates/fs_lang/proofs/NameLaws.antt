@@ -10,6 +10,7 @@ use Rattle.std.specs.List.{AllByRecursion}
 use Rattle.fs_semantics.specs.FileTree.{IsBytes, IsSegment}
 use Rattle.fs_lang.specs.Reading.{HasNo}
 use Rattle.fs_lang.specs.Names.{IsName, replaced, segment_of}
+use Rattle.fs_semantics.proofs.Counts.{all_append}
 
 -- where a text was split at an ASCII byte, the front has none of it; where it wasn't, the whole text has none
 pub cut_at : (c : ℕ) (bs : List ℕ) (r : Option (Bor (List ℕ) × Bor (List ℕ))) → c < 128 → IsSplitOnceResult c bs r → MatchOption r (HasNo c bs) (λ x. (bs ≡ x.0.now ++ c ∷ x.1.now) × HasNo c x.0.now)
@@ -48,11 +49,6 @@ last_replaced c other made new text none e = ap (λ l. made ++ l) (replaced_none
 
 -- ---- what is replaced is a segment
 
--- what holds of all numbers of two lists holds of all of both joined
-all_append : (P : ℕ → Type 0) (xs ys : List ℕ) → AllByRecursion P xs → AllByRecursion P ys → AllByRecursion P (xs ++ ys)
-all_append P [] ys h k = k
-all_append P (x ∷ xs) ys h k = (h.0, all_append P xs ys h.1 k)
-
 -- what holds of the other text and of all bytes that stay holds of the whole that is made
 all_replaced : (P : ℕ → Type 0) (c : ℕ) (other text : List ℕ) → AllByRecursion P other → AllByRecursion (λ b. b ≢ c → P b) text → AllByRecursion P (replaced c other text)
 all_replaced P c other [] h k = tt
@@ -63,7 +59,7 @@ all_replaced P c other (b ∷ text) h k = at (b == c) refl (all_replaced P c oth
     at false e more = (k.0 (λ s. let clash : true ≡ false = sym (eq-eqb b c s) ∙ e in cc), more)
 
 -- what holds of all implies what each of them implies
-all_weaker : (P Q : ℕ → Type 0) (text : List ℕ) → ((b : ℕ) → P b → Q b) → AllByRecursion P text → AllByRecursion Q text
+pub all_weaker : (P Q : ℕ → Type 0) (text : List ℕ) → ((b : ℕ) → P b → Q b) → AllByRecursion P text → AllByRecursion Q text
 all_weaker P Q [] f h = tt
 all_weaker P Q (b ∷ text) f h = (f b h.0, all_weaker P Q text f h.1)
 

@@ -1,6 +1,6 @@
 -- The text of a path, and its reading.
 use Rattle.std.proofs.Common.{◌≡◌, ◌≢◌, ℕ, Bool, true, false, cond, not, ◌&&◌, ◌||◌, ◌==◌, nat_le, List, [], ◌∷◌, ◌++◌, length, Option, Some, None, refl, sym, ap, subst, ◌∙◌, eqb-true, eq-eqb}
-use Rattle.std.proofs.lemmas.Bool.{eqb-false, ne_eqb, le-leb}
+use Rattle.std.proofs.lemmas.Bool.{eqb-false, ne_eqb, le-leb, and_parts}
 use Rattle.std.proofs.Math.Dec.{eqb-suc-zero}
 use Rattle.std.proofs.lemmas.Slice.Eq.{bytes_eq-Decides}
 use Rattle.std.specs.Prelude.{codes, ◌↔◌, IsTrue}
@@ -13,6 +13,7 @@ use Rattle.rh_base.specs.declared.limits.TheConstants.{PATH_BYTES, PATH_SEGMENTS
 use Rattle.fs_lang.specs.PathText.{AreSlashes, Segments, IsPathText}
 use Rattle.fs_lang.proofs.Pieces.{pieces_last, pieces_first}
 use Rattle.fs_lang.specs.Reading.{HasNoSlash, with_byte, pieces, is_good, is_segment, piece_of, joined, segments_of, begins_with_slash, within, path_in}
+use Rattle.fs_semantics.proofs.ConstructLaws.{not_false}
 
 -- the byte isn't in the text
 abbrev HasNone : ℕ → List ℕ → Type 0
@@ -44,16 +45,6 @@ pieces_bytes (b ∷ text) h = elim (b == 47) as (λ v. AllByRecursion IsBytes (c
   | false ↦ with_byte_bytes b (pieces text) h.0 (pieces_bytes text h.1)
 ]
 
--- of a conjunction that is true both sides are true
-both : (a b : Bool) → (a && b) ≡ true → (a ≡ true) × (b ≡ true)
-both true b h = (refl, h)
-both false b h = cc
-
--- a test isn't true where its opposite is
-is_not : (b : Bool) → not b ≡ true → b ≡ true → ⊥
-is_not true h k = cc
-is_not false h k = cc
-
 -- where a disjunction is false both sides are
 neither : (a b : Bool) → not (a || b) ≡ true → (a ≡ true → ⊥) × (not b ≡ true)
 neither true b h = cc
@@ -67,15 +58,15 @@ no_zero (b ∷ p) h = let two = neither (b == 0) (list_any (λ b. b == 0) p) h i
 -- a good piece of bytes without a slash is a segment
 good_segment : (b : ℕ) (p : List ℕ) → IsBytes (b ∷ p) → HasNone 47 (b ∷ p) → is_good (b ∷ p) ≡ true → IsSegment (b ∷ p)
 good_segment b p bytes clean h =
-    let rest = both (not (bytes_eq (b ∷ p) (codes ".")) && not (bytes_eq (b ∷ p) (codes ".."))) (not (list_any (λ b. b == 0) (b ∷ p))) h in
-    let dots = both (not (bytes_eq (b ∷ p) (codes "."))) (not (bytes_eq (b ∷ p) (codes ".."))) rest.0 in
+    let rest = and_parts (not (bytes_eq (b ∷ p) (codes ".")) && not (bytes_eq (b ∷ p) (codes ".."))) (not (list_any (λ b. b == 0) (b ∷ p))) h in
+    let dots = and_parts (not (bytes_eq (b ∷ p) (codes "."))) (not (bytes_eq (b ∷ p) (codes ".."))) rest.0 in
     record {
       bytes = bytes;
       nonempty = λ e. cc;
       no_slash = clean;
       no_zero = no_zero (b ∷ p) rest.1;
-      not_dot = λ e. is_not _ dots.0 ((bytes_eq-Decides (b ∷ p) (codes ".")).1 e);
-      not_dots = λ e. is_not _ dots.1 ((bytes_eq-Decides (b ∷ p) (codes "..")).1 e);
+      not_dot = λ e. not_false _ dots.0 ((bytes_eq-Decides (b ∷ p) (codes ".")).1 e);
+      not_dots = λ e. not_false _ dots.1 ((bytes_eq-Decides (b ∷ p) (codes "..")).1 e);
     }
 
 -- a piece that isn't empty adds itself exactly where it is good
@@ -96,7 +87,7 @@ all_append P [] q a b = b
 all_append P (s ∷ p) q a b = (a.0, all_append P p q a.1 b)
 
 -- what is joined is one path behind the other
-joined_some : (a b : Option Path) (p : Path) → joined a b ≡ Some p → (q : Path) × (r : Path) × (a ≡ Some q) × (b ≡ Some r) × (q ++ r ≡ p)
+pub joined_some : (a b : Option Path) (p : Path) → joined a b ≡ Some p → (q : Path) × (r : Path) × (a ≡ Some q) × (b ≡ Some r) × (q ++ r ≡ p)
 joined_some None b p h = cc
 joined_some (Some q) None p h = cc
 joined_some (Some q) (Some r) p h = (q, r, refl, refl, cc)
@@ -114,7 +105,7 @@ guarded true x y h = h
 guarded false x y h = cc
 
 -- a path within the limit of segments is the one that was read
-within_some : (r : Option Path) (p : Path) → within r ≡ Some p → r ≡ Some p
+pub within_some : (r : Option Path) (p : Path) → within r ≡ Some p → r ≡ Some p
 within_some None p h = cc
 within_some (Some q) p h = guarded _ (Some q) p h
 
@@ -225,7 +216,7 @@ within_shallow (Some q) p h =
 -- a path that is found passes each test of the reading
 found_is : (text : List ℕ) (p : Path) → path_in text ≡ Some p → Found text p
 found_is text p h =
-    let ok = both _ _ (guard_true (nat_le (length text) PATH_BYTES && begins_with_slash text) (within (segments_of (pieces text))) p h) in
+    let ok = and_parts _ _ (guard_true (nat_le (length text) PATH_BYTES && begins_with_slash text) (within (segments_of (pieces text))) p h) in
     let rest = guarded (nat_le (length text) PATH_BYTES && begins_with_slash text) (within (segments_of (pieces text))) p h in
     record { short = ok.0; slash = ok.1; read = within_some (segments_of (pieces text)) p rest; shallow = within_shallow (segments_of (pieces text)) p rest }
 
@@ -359,7 +350,7 @@ there b p = ap not (eqb-suc-zero (length p))
 pub segment_exactly : (text : List ℕ) → IsBytes text → IsTrue (is_segment text) ↔ IsSegment text
 segment_exactly [] bytes = ((λ e. cc), (λ s. absurd (s.nonempty refl)))
 segment_exactly (b ∷ p) bytes = (
-  (λ e. let two = both (not (length (b ∷ p) == 0) && not (list_any (λ c. c == 47) (b ∷ p))) (is_good (b ∷ p)) e in
-      good_segment b p bytes (no_slash_in (b ∷ p) (both (not (length (b ∷ p) == 0)) (not (list_any (λ c. c == 47) (b ∷ p))) two.0).1) two.1),
+  (λ e. let two = and_parts (not (length (b ∷ p) == 0) && not (list_any (λ c. c == 47) (b ∷ p))) (is_good (b ∷ p)) e in
+      good_segment b p bytes (no_slash_in (b ∷ p) (and_parts (not (length (b ∷ p) == 0)) (not (list_any (λ c. c == 47) (b ∷ p))) two.0).1) two.1),
   (λ s. (λ i. there b p i && not (slash_nowhere (b ∷ p) s.no_slash i) && good_again (b ∷ p) s i)),
 )

@@ -16,7 +16,7 @@ use Rattle.fs_replay.specs.Told.{plain_state}
 use Rattle.fs_replay.specs.declared.exchange.Exchange.{Exchange}
 use Rattle.fs_replay.specs.declared.ground.Ground.{Ground}
 use Rattle.fs_replay.specs.Exchanged.{IsGround, StandOn, HoldTheSame, AreAlike}
-use Rattle.fs_replay.proofs.OutcomeLaws.{parents_of}
+use Rattle.fs_semantics.proofs.ConstructLaws.{parents_of}
 
 -- what holds of all of two lists holds of all of the first, and of all of the second
 pub all_ahead : {X : Type 0} (P : X → Type 0) (xs ys : List X) → AllByRecursion P (xs ++ ys) → AllByRecursion P xs

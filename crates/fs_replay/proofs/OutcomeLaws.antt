@@ -1,7 +1,6 @@
 -- Outcomes of runs, and what cells stand for.
 use Rattle.std.proofs.Common.{◌≡◌, ℕ, zero, suc, ◌<◌, true, false, Bool, List, [], ◌∷◌, length, get_or, Some, None, Result, Ok, Err, IfSome, IfOk, refl, sym, subst, ◌∙◌, arith}
-use Rattle.std.specs.List.{AllByRecursion}
-use Rattle.fs_semantics.specs.FileTree.{Tree, IsTree, HasParents}
+use Rattle.fs_semantics.specs.FileTree.{Tree, HasParents}
 use Rattle.fs_semantics.specs.Programs.{Outcome, Program as Steps, Id, and_then, run}
 use Rattle.fs_semantics.specs.Orders.{outcome}
 use Rattle.fs_lang.specs.declared.program.Program.{Program}
@@ -15,16 +14,6 @@ pub covers_at : (t : Listed) (es : List Program) (i : ℕ) (e : Program) → Cov
 covers_at t [] i e h below is = absurd (omega arith)
 covers_at t (x ∷ es) zero e h below is = subst (λ (y : Program). Covers t (program_of y)) (sym is) h.0
 covers_at t (x ∷ es) (suc i) e h below is = covers_at t es i e h.1 (omega arith) is
-
--- what holds of all numbers of a list holds of the one at each place
-pub all_at : (P : ℕ → Type 0) (xs : List ℕ) (i : ℕ) → AllByRecursion P xs → i < length xs → P (get_or xs i 0)
-all_at P [] i h below = absurd (omega arith)
-all_at P (x ∷ xs) zero h below = h.0
-all_at P (x ∷ xs) (suc i) h below = all_at P xs i h.1 (omega arith)
-
--- a file tree has the parents of all that stands in it
-pub parents_of : (t : Tree) → IsTree t → HasParents t
-parents_of t is = record { no_root = is.no_root; parents = is.parents }
 
 module _ (keeps : (e : Steps) (t u : Tree) → HasParents t → run e t ≡ Some u → HasParents u) where
   -- so has what a program leaves of such a tree

@@ -11,6 +11,7 @@ use Rattle.fs_interpreter.specs.Places.{Listed, IsTable, HasPath, HasContent, Ke
 use Rattle.fs_interpreter.specs.States.{Cell, State, truth, number}
 use Rattle.fs_interpreter.specs.Standing.{Tells, Stands}
 use Rattle.fs_replay.specs.Told.{HasTree, HasNode, with_entry}
+use Rattle.rh_base.proofs.Lists.{get_last}
 
 -- what the lists tell of a place
 abbrev pub cell_in : List Bool → List Bool → List Bool → List ℕ → ℕ → Cell
@@ -25,7 +26,7 @@ pub record AreTold (table : Listed) (t : Tree) (n : ℕ) (ps fs ls : List Bool) 
   pub tells : (k : ℕ) (p : Path) → k < n → slice_get table.paths k ≡ Some p → Tells table.contents (cell_in ps fs ls cs k) (map.get t p)
 
 -- an item of the first of two lists stands at its place in both together
-get_before : {X : Type 0} (xs ys : List X) (k : ℕ) → k < length xs → slice_get (xs ++ ys) k ≡ slice_get xs k
+pub get_before : {X : Type 0} (xs ys : List X) (k : ℕ) → k < length xs → slice_get (xs ++ ys) k ≡ slice_get xs k
 get_before [] ys k h = absurd (omega arith)
 get_before (x ∷ xs) ys zero h = refl
 get_before (x ∷ xs) ys (suc k) h = get_before xs ys k (omega arith)
@@ -35,17 +36,12 @@ longer : {X : Type 0} (xs : List X) (x : X) (n : ℕ) → length xs ≡ n → le
 longer [] x n h = let z : 0 ≡ n = h in ap (λ m. m + 1) z
 longer (y ∷ xs) x n h = let more = longer xs x (length xs) refl in omega arith
 
--- the item that was added stands last
-get_last : {X : Type 0} (xs : List X) (x : X) → slice_get (xs ++ x ∷ []) (length xs) ≡ Some x
-get_last [] x = refl
-get_last (y ∷ xs) x = get_last xs x
-
 -- it stands where the list ended before
 last_at : {X : Type 0} (xs : List X) (x : X) (n : ℕ) → length xs ≡ n → slice_get (xs ++ x ∷ []) n ≡ Some x
 last_at xs x n h = subst (λ k. slice_get (xs ++ x ∷ []) k ≡ Some x) h (get_last xs x)
 
 -- what is below the next number is below a number, or is that number
-same_or_below : (k n : ℕ) → k < n + 1 → (k < n) ⊎ (k ≡ n)
+pub same_or_below : (k n : ℕ) → k < n + 1 → (k < n) ⊎ (k ≡ n)
 same_or_below k zero h = inr (omega arith)
 same_or_below zero (suc n) h = inl (omega arith)
 same_or_below (suc k) (suc n) h = elim (same_or_below k n (omega arith)) [

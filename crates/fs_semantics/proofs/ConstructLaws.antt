@@ -9,16 +9,12 @@ use Rattle.fs_semantics.specs.FileTree.{Path, IsSegment, IsBytes, HasText, Entry
 use Rattle.fs_semantics.specs.Programs.{Program, Programs, Id, Err, Mkdir, Creat, Link, Rm, Cp, Steps, If, none, next, Outcome, and_then, holds, made, removed, copied, run, run_all}
 use Rattle.fs_semantics.specs.Changes.{Changes, ChangesInSteps, IsProper, AreProperSteps}
 use Rattle.fs_semantics.proofs.Trees.{path_eq_refl, path_eq_same, at_inserted, at_other, at_removed, at_kept, is_dir_other, parent_differs}
+use Rattle.std.proofs.lemmas.Bool.{and_parts, or_right, or_left, or_cases}
 
 -- a step that ends in a tree had its test true, and leaves that tree
-guarded : (b : Bool) (u v : Tree) → cond b (Some u) None ≡ Some v → (b ≡ true) × (u ≡ v)
+pub guarded : (b : Bool) (u v : Tree) → cond b (Some u) None ≡ Some v → (b ≡ true) × (u ≡ v)
 guarded true u v h = (refl, cc)
 guarded false u v h = (cc, cc)
-
--- of a conjunction that is true both sides are true
-both : (a b : Bool) → (a && b) ≡ true → (a ≡ true) × (b ≡ true)
-both true b h = (refl, h)
-both false b h = cc
 
 -- ---- a new entry
 
@@ -32,7 +28,7 @@ pub record Made (p : Path) (x : Entry) (t u : Tree) : Type 0 where
 pub made_is : (p : Path) (x : Entry) (t u : Tree) → made p x t ≡ Some u → Made p x t u
 made_is p x t u h =
     let done = guarded (is_none t p && is_dir t (parent p)) (map.insert t p x) u h in
-    let two = both (is_none t p) (is_dir t (parent p)) done.0 in
+    let two = and_parts (is_none t p) (is_dir t (parent p)) done.0 in
     record { free = two.0; above = two.1; is = done.1 }
 
 -- a copy makes a file
@@ -83,12 +79,12 @@ mutual
 -- ---- a file tree stays one
 
 -- what isn't there is no folder
-none_no_folder : (r : Option Entry) → is_no_entry r ≡ true → is_folder_entry r ≡ true → ⊥
+pub none_no_folder : (r : Option Entry) → is_no_entry r ≡ true → is_folder_entry r ≡ true → ⊥
 none_no_folder None h k = cc
 none_no_folder (Some e) h k = cc
 
 -- a free place is no folder
-free_no_folder : (t : Tree) (p : Path) → is_none t p ≡ true → is_dir t p ≡ true → ⊥
+pub free_no_folder : (t : Tree) (p : Path) → is_none t p ≡ true → is_dir t p ≡ true → ⊥
 free_no_folder t [] h k = cc
 free_no_folder t (s ∷ p) h k = none_no_folder (map.get t (s ∷ p)) h k
 
@@ -97,7 +93,7 @@ free_no_root : (t : Tree) (p : Path) → is_none t p ≡ true → p ≢ []
 free_no_root t p h e = let no : is_none t [] ≡ true = subst (λ r. is_none t r ≡ true) e h in cc
 
 -- no path but the root is its own parent
-parent_other : (p : Path) → p ≢ [] → parent p ≢ p
+pub parent_other : (p : Path) → p ≢ [] → parent p ≢ p
 parent_other [] h = absurd (h refl)
 parent_other (s ∷ p) h = parent_differs s p
 
@@ -152,25 +148,10 @@ made_keeps_parents t u p x has h = let m = made_is p x t u h in subst HasParents
 made_keeps_tree : (t u : Tree) (p : Path) (x : Entry) → IsTree t → AllByRecursion IsSegment p → HasBytes (Some x) → made p x t ≡ Some u → IsTree u
 made_keeps_tree t u p x tree proper bytes h = let m = made_is p x t u h in subst IsTree m.is (insert_keeps_tree t p x tree proper bytes m.free m.above)
 
--- a disjunction with a true left side is true
-or_left : (a b : Bool) → a ≡ true → (a || b) ≡ true
-or_left true b h = refl
-or_left false b h = cc
-
--- a disjunction with a true right side is true
-or_right : (a b : Bool) → b ≡ true → (a || b) ≡ true
-or_right true b h = refl
-or_right false b h = h
-
--- of a disjunction that is true one side is true
-or_split : (a b : Bool) → (a || b) ≡ true → (a ≡ true) ⊎ (b ≡ true)
-or_split true b h = inl refl
-or_split false b h = inr h
-
 -- a child of p is found among the entries
 pub child_found : (p q : Path) (ks : List Path) → parent q ≡ p → list_any (eq_by_cmp path_cmp q) ks ≡ true → list_any (λ r. path_eq (parent r) p) ks ≡ true
 child_found p q [] e h = cc
-child_found p q (k ∷ ks) e h = elim (or_split (eq_by_cmp path_cmp q k) (list_any (eq_by_cmp path_cmp q) ks) h) [
+child_found p q (k ∷ ks) e h = elim (or_cases (eq_by_cmp path_cmp q k) (list_any (eq_by_cmp path_cmp q) ks) h) [
   | inl here ↦
       let same : q ≡ k = path_eq_same q k here in
       or_left _ _ (ap (λ r. path_eq (parent r) p) (sym same) ∙ ap (λ r. path_eq r p) e ∙ path_eq_refl p)
@@ -178,14 +159,14 @@ child_found p q (k ∷ ks) e h = elim (or_split (eq_by_cmp path_cmp q k) (list_a
 ]
 
 -- nothing is both true and false
-not_false : (b : Bool) → not b ≡ true → b ≡ true → ⊥
+pub not_false : (b : Bool) → not b ≡ true → b ≡ true → ⊥
 not_false true h k = cc
 not_false false h k = cc
 
 -- an empty folder has no child
 empty_no_child : (t : Tree) (p q : Path) → is_empty_dir t p ≡ true → IsTrue (map.contains_key t q) → parent q ≢ p
 empty_no_child t p q empty h e =
-    let two = both (is_dir t p) (not (list_any (λ r. path_eq (parent r) p) (map.keys t))) empty in
+    let two = and_parts (is_dir t p) (not (list_any (λ r. path_eq (parent r) p) (map.keys t))) empty in
     not_false _ two.1 (child_found p q (map.keys t) e (sym (contains_key-keys t q) ∙ h))
 
 -- a folder is neither a file nor a link

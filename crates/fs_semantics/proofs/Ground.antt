@@ -233,7 +233,7 @@ free_on_ground (s ∷ p) ps disjoint h n =
 -- ---- and all of them, one after the other
 
 -- programs without the first one are run by the numbers from the second on
-shifted : (e : Program) (es : List Program) (k n : ℕ) (t : Tree) → outcome (e ∷ es) (up_from (suc k) n) t ≡ outcome es (up_from k n) t
+pub shifted : (e : Program) (es : List Program) (k n : ℕ) (t : Tree) → outcome (e ∷ es) (up_from (suc k) n) t ≡ outcome es (up_from k n) t
 shifted e es k zero t = refl
 shifted e es k (suc n) t = ap (and_then (run (get_or es k Id) t)) (λ i u. shifted e es (suc k) n u i)
 
@@ -268,17 +268,17 @@ all_done (f ∷ files) t paths disjoint can =
 -- ---- the order by number is allowed
 
 -- the numbers from one on, so many, are below their end
-up_below : (k n m : ℕ) → k + n ≤ m → AllByRecursion (λ i. i < m) (up_from k n)
+pub up_below : (k n m : ℕ) → k + n ≤ m → AllByRecursion (λ i. i < m) (up_from k n)
 up_below k zero m h = tt
 up_below k (suc n) m h = (omega arith, up_below (suc k) n m (omega arith))
 
 -- no smaller number stands among them
-none_before : (k n j : ℕ) → j < k → times j (up_from k n) ≡ 0
+pub none_before : (k n j : ℕ) → j < k → times j (up_from k n) ≡ 0
 none_before k zero j h = refl
 none_before k (suc n) j h = ap (λ b. cond b 1 0 + times j (up_from (suc k) n)) (ne_eqb k j (omega arith)) ∙ omega (arith, none_before (suc k) n j (omega arith))
 
 -- and each of them stands there once
-once_up : (k n j : ℕ) → k ≤ j → j < k + n → times j (up_from k n) ≡ 1
+pub once_up : (k n j : ℕ) → k ≤ j → j < k + n → times j (up_from k n) ≡ 1
 once_up k zero j h l = absurd (omega arith)
 once_up k (suc n) j h l = elim (k == j) as (λ b. (k == j) ≡ b → cond b 1 0 + times j (up_from (suc k) n) ≡ 1) [
   | true ↦ λ e. let same : k ≡ j = eqb-true k j e in omega (arith, none_before (suc k) n j (omega arith))

@@ -5,6 +5,7 @@ use Rattle.fs_semantics.specs.FileTree.{Path, Entry, Folder, File, Link as LinkT
 use Rattle.fs_semantics.specs.Programs.{Outcome, and_then, run}
 use Rattle.fs_semantics.specs.Models.{put}
 use Rattle.fs_semantics.proofs.Trees.{at_inserted, at_other, at_removed, at_kept, insert-remove, insert-insert, insert-comm, parent_differs, is_dir_other}
+use Rattle.fs_semantics.proofs.ConstructLaws.{guarded}
 
 -- the path is free or a file, and its parent is a folder
 abbrev pub can_put : Path → Tree → Bool
@@ -64,13 +65,8 @@ steps_commute p q c d t h k l =
     ∙ two_tests (can_put p t) (can_put q t) _ _ (insert-comm t p q (File c) (File d) h)
     ∙ sym (then_step (can_put q t) (map.insert t q (File d)) (put_step p c) ∙ ap (λ b. cond (can_put q t) (cond b (Some (map.insert (map.insert t q (File d)) p (File c))) None) None) (can_put_other p q (File d) t h k))
 
--- a step that ends in a tree had its test true, and leaves that tree
-guarded : (b : Bool) (u v : Tree) → cond b (Some u) None ≡ Some v → (b ≡ true) × (u ≡ v)
-guarded true u v h = (refl, cc)
-guarded false u v h = (cc, cc)
-
 -- of a conjunction that is true the right side is true
-and_right : (a b : Bool) → (a && b) ≡ true → b ≡ true
+pub and_right : (a b : Bool) → (a && b) ≡ true → b ≡ true
 and_right true b h = h
 and_right false b h = cc
 

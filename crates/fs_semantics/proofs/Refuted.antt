@@ -15,7 +15,7 @@ none_or_some None h = refl
 none_or_some (Some u) h = absurd (h refl)
 
 -- a run that ends in a tree doesn't end in Error
-some_not_none : (r : Outcome) → IsSome r → r ≡ None → ⊥
+pub some_not_none : (r : Outcome) → IsSome r → r ≡ None → ⊥
 some_not_none None h e = cc
 some_not_none (Some u) h e = cc
 

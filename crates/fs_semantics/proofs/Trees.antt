@@ -6,7 +6,7 @@ use Rattle.std.specs.Ordering.{is_eq}
 use Rattle.std.specs.FinMap as map
 use Rattle.std.specs.FinMap.{IsAntisymmetric, nat_cmp-IsAntisymmetric, slice_cmp-IsAntisymmetric, get-insert, get-remove, same_map}
 use Rattle.std.specs.Prelude.{◌↔◌, IsTrue}
-use Rattle.std.proofs.lemmas.Bool.{or_cases, or_left, or_right}
+use Rattle.std.proofs.lemmas.Bool.{or_cases, or_left, or_right, false_from_ne_true}
 use Rattle.fs_semantics.specs.FileTree.{Path, Entry, Tree, path_cmp, path_eq, is_among, parent, is_dir, is_folder_entry}
 use Rattle.fs_semantics.specs.Disjoint.{IsAncestor}
 
@@ -26,14 +26,9 @@ path_eq_refl p = ap is_eq (tied_itself path_total p)
 pub path_eq_same : (p q : Path) → path_eq p q ≡ true → p ≡ q
 path_eq_same p q h = path_same p q ((Equal-is (path_cmp p q)).0 h)
 
--- a truth value that isn't true is false
-not_true : (b : Bool) → (b ≡ true → ⊥) → b ≡ false
-not_true true h = absurd (h refl)
-not_true false h = refl
-
 -- different paths are told not to be one
 pub path_eq_other : (p q : Path) → p ≢ q → path_eq p q ≡ false
-path_eq_other p q h = not_true _ (λ e. h (path_eq_same p q e))
+path_eq_other p q h = false_from_ne_true _ (λ e. h (path_eq_same p q e))
 
 -- what is at a path after an insertion
 pub at_inserted : (t : Tree) (p : Path) (x : Entry) → map.get (map.insert t p x) p ≡ Some x

@@ -63,7 +63,7 @@ free_at t [] = ((λ h. cc), (λ h. absurd (h.0 refl)))
 free_at t (s ∷ p) = ((λ h. ((λ e. cc), (no_entry (map.get t (s ∷ p))).0 h)), (λ h. (no_entry (map.get t (s ∷ p))).1 h.1))
 
 -- a negation is true exactly where the other isn't
-not_word : (b : Bool) → (not b ≡ true) ↔ (b ≡ true → ⊥)
+pub not_word : (b : Bool) → (not b ≡ true) ↔ (b ≡ true → ⊥)
 not_word true = ((λ h. cc), (λ h. absurd (h refl)))
 not_word false = ((λ h e. cc), (λ h. refl))
 

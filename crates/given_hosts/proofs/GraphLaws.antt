@@ -9,11 +9,7 @@ use Rattle.fs_semantics.proofs.Counts.{all_back}
 use Rattle.given_hosts.specs.Given.{Stand, IsGivenTree, IsDeterministicFrom, IsIdempotentFrom, SucceedsFrom, IsCounterexampleFrom, EndsWithFrom, AreEqualFrom}
 use Rattle.given_hosts.specs.Guard.{guard, guarded, GoesFirst}
 use Rattle.given_hosts.proofs.GuardLaws.{stand_told, ends_where_stand, fails_elsewhere, in_front, guard_first}
-
--- a run that ends in a tree doesn't end in Error
-some_not_none : (r : Outcome) → IsSome r → r ≡ None → ⊥
-some_not_none None h e = cc
-some_not_none (Some u) h e = cc
+use Rattle.fs_semantics.proofs.Refuted.{some_not_none}
 
 -- and one that ends in Error ends in no tree
 none_not_some : (r : Outcome) (u : Tree) → r ≡ None → r ≡ Some u → ⊥

@@ -1,6 +1,6 @@
 -- What the guard does, and where it stands in an allowed order.
 use Rattle.std.proofs.Common.{◌≡◌, ◌≢◌, ℕ, zero, suc, Bool, true, false, cond, ◌&&◌, ◌||◌, nat_lt, ◌==◌, ◌⊎◌, ltb-true, lt-ltb, eq-eqb, ne_eqb, ap₂, ◌+◌, ◌<◌, List, [], ◌∷◌, ◌++◌, length, get_or, Some, None, refl, sym, ap, subst, ◌∙◌, arith, inl, inr}
-use Rattle.std.proofs.lemmas.Bool.{cases_eq}
+use Rattle.std.proofs.lemmas.Bool.{cases_eq, and_parts, and_from}
 use Rattle.std.specs.List.{AllByRecursion}
 use Rattle.fs_semantics.specs.FileTree.{Path, IsSegment, Tree, is_dir}
 use Rattle.fs_semantics.specs.Programs.{Program, Id, Mkdir, and_then, run, run_all}
@@ -173,21 +173,11 @@ module _ (n : ℕ) (before after : ℕ → ℕ → Bool) (first : GoesFirst n be
 
 -- ---- the order with the guard in front
 
--- a conjunction of two that are true is true
-joined : (a b : Bool) → a ≡ true → b ≡ true → (a && b) ≡ true
-joined true b h k = k
-joined false b h k = cc
-
--- of a conjunction that is true both sides are true
-both : (a b : Bool) → (a && b) ≡ true → (a ≡ true) × (b ≡ true)
-both true b h = (refl, h)
-both false b h = cc
-
 -- the order that is made with the guard has it first
 pub goes_first : (n : ℕ) (before : ℕ → ℕ → Bool) → GoesFirst n before (guard_before n before)
 goes_first n before = record {
-  first = λ b h. joined (nat_lt b n) ((n == n) || before n b) (lt-ltb b n h) (ap (λ v. v || before n b) (eq-eqb n n refl));
-  never_behind = λ a h k. off (nat_lt n n) (below_itself n) (both (nat_lt n n) ((a == n) || before a n) k).0;
+  first = λ b h. and_from (nat_lt b n) ((n == n) || before n b) (lt-ltb b n h) (ap (λ v. v || before n b) (eq-eqb n n refl));
+  never_behind = λ a h k. off (nat_lt n n) (below_itself n) (and_parts (nat_lt n n) ((a == n) || before a n) k).0;
   others = λ a b x y.
       let differ : (a == n) ≡ false = ne_eqb a n (λ e. let low : a < n = x in omega (arith, low, e)) in
       let same : guard_before n before a b ≡ before a b = ap₂ (λ u v. u && (v || before a b)) (lt-ltb b n y) differ in

@@ -11,6 +11,7 @@ use Rattle.fs_semantics.proofs.Decided.{outcome_told}
 use Rattle.given_hosts.specs.Given.{Stand, IsGivenTree, IsDeterministicFrom, IsIdempotentFrom, IsSecondRunCounterexampleFrom}
 use Rattle.given_hosts.specs.Guard.{GoesFirst, steps_in, first_run, after_first, KeepsGiven}
 use Rattle.given_hosts.proofs.GuardLaws.{stand_told, guard_stands, guard_fails, last_one, outcome_ahead, in_front, guard_first}
+use Rattle.fs_semantics.proofs.Permuted.{then_alike}
 
 -- the steps of an order end as the order does
 steps_are : (es : List Program) (o : List ℕ) (t : Tree) → run_all (steps_in es o) t ≡ outcome es o t
@@ -24,11 +25,6 @@ first_stands given es o t h = ap (λ r. and_then r (run_all (steps_in es o))) (g
 -- and elsewhere it ends in Error
 pub first_fails : (given : List Path) (es : List Program) (o : List ℕ) (t : Tree) → (Stand given t → ⊥) → run (first_run given es o) t ≡ None
 first_fails given es o t h = ap (λ r. and_then r (run_all (steps_in es o))) (guard_fails given t h)
-
--- what is the same behind each end of the first run
-then_told : (r : Outcome) (f g : Tree → Outcome) → ((u : Tree) → r ≡ Some u → f u ≡ g u) → and_then r f ≡ and_then r g
-then_told None f g h = refl
-then_told (Some u) f g h = h u refl
 
 -- an order behind the first run
 behind_first : (given : List Path) (es : List Program) (first o : List ℕ) (t : Tree) → AllByRecursion (λ k. k < length es) o
@@ -111,7 +107,7 @@ module _ (given : List Path) (es : List Program) (before : ℕ → ℕ → Bool)
         let r = order_behind p b in
         elim (stand_told given t) [
           | inl g ↦ where_stand o l.0 t l.1 l.2 g
-              ∙ then_told (outcome es first t) (outcome es l.0) (outcome es r.0) (λ u done.
+              ∙ then_alike (outcome es first t) (outcome es l.0) (outcome es r.0) (λ u done.
               h t (record { is_tree = tree; stand = g }) first l.0 allowed l.2 u done ∙ sym (h t (record { is_tree = tree; stand = g }) first r.0 allowed r.2 u done))
               ∙ sym (where_stand p r.0 t r.1 r.2 g)
           | inr n ↦ elsewhere o l.0 t l.1 l.2 n ∙ sym (elsewhere p r.0 t r.1 r.2 n)

@@ -1,8 +1,8 @@
 -- What is said of arrows that repair the graph with the guard in front, said of the graph.
-use Rattle.std.proofs.Common.{◌≡◌, ◌≢◌, ◌↔◌, inl, inr, ℕ, ◌+◌, List, [], ◌∷◌, ◌++◌, length, Some, None, refl, sym, ap, subst, ◌∙◌}
+use Rattle.std.proofs.Common.{◌≡◌, ◌≢◌, ◌↔◌, inl, inr, ℕ, ◌+◌, List, [], ◌∷◌, ◌++◌, length, refl, sym, ap, subst, ◌∙◌}
 use Rattle.std.specs.Prelude.{IsSome}
 use Rattle.fs_semantics.specs.FileTree.{Path, Tree}
-use Rattle.fs_semantics.specs.Programs.{Program, Outcome}
+use Rattle.fs_semantics.specs.Programs.{Program}
 use Rattle.fs_semantics.specs.Orders.{Told, outcome, IsDeterministic}
 use Rattle.given_hosts.specs.Given.{Stand, IsDeterministicFrom}
 use Rattle.given_hosts.specs.Guard.{guarded, guard_before}
@@ -19,11 +19,7 @@ use Rattle.repair.specs.declared.repaired.Repaired.{Repaired}
 use Rattle.repair.specs.declared.repaired.Repaired.TheVariants as repaired
 use Rattle.given_repair.specs.Repairs.{RepairsFrom, AreNeededFrom, PointRightFrom, IsSpentWithFrom, IsRepairedFrom}
 use Rattle.given_repair.proofs.RunLaws.{Followed, goes, can_be_added, behind, deterministic_from, deterministic_with}
-
--- a run that ends in a tree doesn't end in Error
-some_not_none : (r : Outcome) → IsSome r → r ≡ None → ⊥
-some_not_none None h e = cc
-some_not_none (Some u) h e = cc
+use Rattle.fs_semantics.proofs.Refuted.{some_not_none}
 
 -- ---- where no folder is given
 module _ (es : List Program) (order : Relation) where

@@ -9,16 +9,17 @@ use Rattle.rh_base.specs.declared.misread.Misread.{Misread}
 use Rattle.rh_base.specs.declared.misread.Misread.TheVariants as misread
 use Rattle.rh_base.specs.Reading.{Fails}
 use Rattle.rh_base.specs.Refused.{IfRefused, IsRefusal}
-use Rattle.pkg_listing.proofs.FormLaws.{no_value, same_some}
 use Rattle.given_text.specs.declared.given.Given.{Given}
 use Rattle.given_text.specs.Form.{named, IsStated, IsSound, IsClosed, IsGivenBy, IsGivenText}
-use Rattle.given_text.specs.Reading.{stated_of, IfForm}
+use Rattle.json_parts.specs.Forms.{IfForm}
+use Rattle.given_text.specs.Reading.{stated_of}
 use Rattle.given_text.proofs.FormLaws.{stated_back}
 use Rattle.given_text.proofs.JustLaws.{same_tree}
+use Rattle.std.proofs.lemmas.Option.{none-some, same_Some}
 
 -- JSON states one thing only
 same_stated : (d : Data) (a b : Given) → IsStated a d → IsStated b d → a ≡ b
-same_stated d a b is was = same_some a b (sym (stated_back d a is) ∙ stated_back d b was)
+same_stated d a b is was = same_Some a b (sym (stated_back d a is) ∙ stated_back d b was)
 
 -- what is stated gives one thing only
 same_closed : (stated g h : Given) → IsClosed stated g → IsClosed stated h → g ≡ h
@@ -35,13 +36,13 @@ same_given d g h is was =
 -- and so does a text
 pub one_given : (bytes : List ℕ) (g h : Given) → IsGivenText bytes g → IsGivenText bytes h → g ≡ h
 one_given bytes g h is was =
-    same_given was.json g h (subst (λ d. IsGivenBy d g) (same_some is.json was.json (sym is.is_read ∙ was.is_read)) is.gives) was.gives
+    same_given was.json g h (subst (λ d. IsGivenBy d g) (same_Some is.json was.json (sym is.is_read ∙ was.is_read)) is.gives) was.gives
 
 -- ---- JSON that gives nothing
 
 -- JSON that isn't read as folders and links gives nothing
 pub states_none : (d : Data) → stated_of d ≡ None → (g : Given) → IsGivenBy d g → ⊥
-states_none d none g is = no_value is.stated (sym none ∙ stated_back d is.stated is.states)
+states_none d none g is = none-some is.stated (sym none ∙ stated_back d is.stated is.states)
 
 -- JSON whose folders and links aren't sound gives nothing
 pub not_sound : (d : Data) (s : Given) → IsStated s d → (IsSound s → ⊥) → (g : Given) → IsGivenBy d g → ⊥
@@ -49,7 +50,7 @@ not_sound d s states n g is = n (subst IsSound (same_stated d is.stated s is.sta
 
 -- a text whose JSON gives nothing gives nothing
 pub gives_none : (bytes : List ℕ) (d : Data) → read bytes ≡ Some d → ((g : Given) → IsGivenBy d g → ⊥) → (g : Given) → IsGivenText bytes g → ⊥
-gives_none bytes d is n g text = n g (subst (λ e. IsGivenBy e g) (same_some text.json d (sym text.is_read ∙ is)) text.gives)
+gives_none bytes d is n g text = n g (subst (λ e. IsGivenBy e g) (same_Some text.json d (sym text.is_read ∙ is)) text.gives)
 
 -- where the fault is the form, the JSON gives nothing
 pub not_stated : (d : Data) (e : Misread) → Fails e (stated_of d) → IfForm e ((g : Given) → IsGivenBy d g → ⊥)

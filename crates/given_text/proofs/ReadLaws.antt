@@ -10,15 +10,11 @@ use Rattle.serde_json.proofs.Views.{Entry, members_len-members_view}
 use Rattle.rh_base.specs.Reading.{◌>>=◌}
 use Rattle.given_links.specs.declared.links.GivenLink.{GivenLink}
 use Rattle.given_text.specs.Reading.{link_of, links_of, stated_with, stated_of, IsProperLink}
+use Rattle.rh_base.proofs.Lists.{all_last}
 
 -- these links were read, and these members are left of what gives the whole
 abbrev pub AreRead : List GivenLink → List Entry → Option (List GivenLink) → Type 0
 AreRead links es whole = (option_map (λ more. links ++ more) (links_of (members_view es)) ≡ whole) × AllByRecursion IsProperLink links
-
--- what holds of all of a list and of one more holds of all with that one at the end
-all_last : {X : Type 0} (P : X → Type 0) (xs : List X) (x : X) → AllByRecursion P xs → P x → AllByRecursion P (xs ++ x ∷ [])
-all_last P [] x h k = (k, tt)
-all_last P (y ∷ xs) x h k = (h.0, all_last P xs x h.1 k)
 
 -- one link ahead of the rest is one behind those that were read
 by_more : (o : Option (List GivenLink)) (links : List GivenLink) (l : GivenLink) → option_map (λ more. (links ++ l ∷ []) ++ more) o ≡ option_map (λ more. links ++ more) (option_map (λ more. l ∷ more) o)

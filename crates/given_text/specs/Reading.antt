@@ -1,17 +1,16 @@
 -- What the text of what every host has gives, as it is read; none, where it has another form.
-use Rattle.std.specs.Prelude.{◌≡◌, ℕ, ◌==◌, Bool, false, if◌then◌else◌, List, [], ◌∷◌, map, Option, Some, None, option_map, option_and_then, codes}
+use Rattle.std.specs.Prelude.{◌≡◌, ℕ, ◌==◌, if◌then◌else◌, List, [], ◌∷◌, map, Option, Some, None, option_map, codes}
 use Rattle.std.specs.List.{AllByRecursion}
 use Rattle.std.specs.FinMap as finite
 use Rattle.serde_json.specs.Data.{Data, Members, no_members, member}
-use Rattle.serde_json.specs.Find.{get, as_object, as_array, as_number, as_u64}
+use Rattle.serde_json.specs.Find.{get, as_object, as_array}
 use Rattle.serde_json.specs.Events.{members_len}
 use Rattle.rh_base.specs.Reading.{◌>>=◌}
-use Rattle.rh_base.specs.declared.misread.Misread.{Misread}
-use Rattle.rh_base.specs.declared.misread.Misread.TheVariants as misread
 use Rattle.fs_semantics.specs.FileTree.{Path, Entry, Folder, IsSegment, Tree}
 use Rattle.pkg_listing.specs.Reading.{managed_path, path_of, folders_of}
 use Rattle.given_links.specs.declared.links.GivenLink.{GivenLink}
 use Rattle.given_text.specs.declared.given.Given.{Given}
+use Rattle.json_parts.specs.Versions.{has_version}
 
 -- ---- the folders of paths
 
@@ -58,19 +57,6 @@ abbrev pub links_in : Option Data → ℕ → Option (List GivenLink)
 links_in None keys = if keys == 2 then Some [] else None
 links_in (Some d) keys = if keys == 3 then as_object d >>= links_of else None
 
--- it is the number 1
-abbrev pub is_one : Option ℕ → Bool
-is_one None = false
-is_one (Some n) = n == 1
-
-abbrev pub is_version : Data → Bool
-is_version d = is_one (option_and_then as_u64 (as_number d))
-
--- the same, if it stands there
-abbrev pub has_version : Option Data → Bool
-has_version None = false
-has_version (Some d) = is_version d
-
 -- what names these folders and links
 abbrev pub given_with : List Path → List GivenLink → Given
 given_with folders links = record { folders = folders; links = links }
@@ -96,8 +82,3 @@ IsProperLink l = AllByRecursion IsSegment l.path × AllByRecursion IsSegment l.t
 
 abbrev pub IsProper : Given → Type 0
 IsProper g = AllByRecursion (AllByRecursion IsSegment) g.folders × AllByRecursion IsProperLink g.links
-
--- a fact where the fault is that the text has another form
-abbrev pub IfForm : Misread → Type 0 → Type 0
-IfForm misread.Form P = P
-IfForm (misread.Memory m) P = Unit {0}

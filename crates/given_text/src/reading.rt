@@ -8,7 +8,8 @@ ghost use Rattle.rh_base.specs.Refused.{IfRefused, IsRefusal};
 ghost use Rattle.fs_semantics.specs.FileTree.{IsSegment};
 ghost use Rattle.given_text.specs.declared.given.Given.{Given as Said};
 ghost use Rattle.given_text.specs.Form.{IsClosed, IsGivenBy, IsGivenText};
-ghost use Rattle.given_text.specs.Reading.{link_of, links_of, links_in, has_version, folders_in, stated_with, stated_of, IsProperLink, IsProper, IfForm};
+ghost use Rattle.json_parts.specs.Forms.{IfForm};
+ghost use Rattle.given_text.specs.Reading.{link_of, links_of, links_in, folders_in, stated_with, stated_of, IsProperLink, IsProper};
 
 use crate::checking::is_sound;
 use crate::folders::{named_tree, paths_in};
@@ -16,6 +17,7 @@ use crate::given::Given;
 use crate::laws::given_texts;
 use fs_lang::Path;
 use given_links::GivenLink;
+use json_parts::has_version;
 use pkg_listing::{folders_of, managed_path, path_of};
 use rh_base::{Fault, Misread, NoMemory, Seq};
 use serde_json::{Category, Map, Value as Json};
@@ -73,19 +75,6 @@ fn links_in(alloc: Global, json: Option<&Json>, keys: usize) -> Result<Seq<Given
                 Err(Misread::Form)
             }
         }
-    }
-}
-
-/// Whether a version is told, and is the number 1.
-fn has_version(json: Option<&Json>) -> bool
-    ensures { result ≡ has_version (option_map (λ d. view d.now) json.entry) }
-{
-    match json {
-        Some(json) => match json.as_u64() {
-            Some(n) => n == 1,
-            None => false,
-        },
-        None => false,
     }
 }
 

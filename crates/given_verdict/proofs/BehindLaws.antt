@@ -45,7 +45,7 @@ run_is given es o steps h = ap Steps (programs_are steps ∙ ap as_steps h ∙ a
 -- ---- a second run in an order
 
 -- a run ends in Error, or in a tree
-ended : (r : Outcome) → (r ≡ None) ⊎ ((u : Tree) × (r ≡ Some u))
+pub ended : (r : Outcome) → (r ≡ None) ⊎ ((u : Tree) × (r ≡ Some u))
 ended None = inl refl
 ended (Some u) = inr (u, refl)
 

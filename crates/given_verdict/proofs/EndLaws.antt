@@ -1,8 +1,8 @@
 -- A run that ends in a tree, with the guard in front and without it.
-use Rattle.std.proofs.Common.{◌≡◌, ◌≢◌, ℕ, List, [], ◌∷◌, length, Some, None, sym, ap, subst, ◌∙◌}
+use Rattle.std.proofs.Common.{◌≡◌, ◌≢◌, ℕ, List, [], ◌∷◌, length, sym, ap, subst, ◌∙◌}
 use Rattle.std.specs.Prelude.{◌↔◌, IsSome, is_some}
 use Rattle.fs_semantics.specs.FileTree.{Path, Tree, IsTree}
-use Rattle.fs_semantics.specs.Programs.{Program, Outcome}
+use Rattle.fs_semantics.specs.Programs.{Program}
 use Rattle.fs_semantics.specs.Orders.{Told, IsLinearExtension, outcome}
 use Rattle.path_domain.specs.Laid.{layout_of}
 use Rattle.given_hosts.specs.Given.{IsDeterministicFrom, SucceedsFrom}
@@ -18,11 +18,7 @@ use Rattle.success.specs.Questions.{StatesEnd, IsEnd}
 use Rattle.given_verdict.specs.Second.{IsChangeFrom}
 use Rattle.given_verdict.specs.Ends.{IsRunFrom, StatesEndFrom, IsEndFrom, IsRunOf, HasOneOrder}
 use Rattle.given_verdict.proofs.AskedLaws.{layout_of_guarded}
-
--- what ends in a tree doesn't end in Error
-some_not_none : (r : Outcome) → IsSome r → r ≡ None → ⊥
-some_not_none None h e = cc
-some_not_none (Some u) h e = cc
+use Rattle.fs_semantics.proofs.Refuted.{some_not_none}
 
 -- a witness of a run that ends in a tree has one order
 pub one_order : (es : List Program) (order : Relation) (w : Witness) → IsEnd es order w → HasOneOrder w

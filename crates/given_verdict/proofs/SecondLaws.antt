@@ -1,8 +1,8 @@
 -- One run and two, behind the guard: they end differently just where the first ends in a tree that the second doesn't leave as it is.
-use Rattle.std.proofs.Common.{◌≡◌, ◌≢◌, ◌↔◌, ◌⊎◌, inl, inr, ℕ, Bool, ◌<◌, List, [], ◌∷◌, ◌++◌, ◌+◌, length, map, arith, Some, None, refl, sym, ap, subst, ◌∙◌}
+use Rattle.std.proofs.Common.{◌≡◌, ◌≢◌, ◌↔◌, ◌⊎◌, inl, inr, ℕ, Bool, ◌<◌, List, [], ◌∷◌, ◌++◌, ◌+◌, length, map, arith, sym, ap, subst, ◌∙◌}
 use Rattle.std.specs.List.{AllByRecursion}
 use Rattle.fs_semantics.specs.FileTree.{Path, Tree, IsTree}
-use Rattle.fs_semantics.specs.Programs.{Program, Outcome, and_then}
+use Rattle.fs_semantics.specs.Programs.{Program, and_then}
 use Rattle.fs_semantics.specs.Orders.{Told, IsLinearExtension, outcome}
 use Rattle.fs_semantics.proofs.Counts.{all_append}
 use Rattle.fs_semantics.proofs.Commuting.{outcome-append}
@@ -29,6 +29,7 @@ use Rattle.order_encode.specs.declared.witness.Witness.TheVariants as witness
 use Rattle.order_encode.proofs.WitnessLaws.{Long, first_same}
 use Rattle.given_verdict.proofs.AskedLaws.{layout_of_guarded}
 use Rattle.given_verdict.specs.Second.{IsChangedFrom, HasChangeFrom, StatesSecondFrom, NeverChangedFrom, IsSecondChangeFrom, IsChangeTree, IsOfEnd, IsWithFirst}
+use Rattle.given_verdict.proofs.BehindLaws.{ended}
 
 -- a layout of programs gives a domain of them
 abbrev pub LaidOut : Type 0
@@ -41,11 +42,6 @@ HaveShadows = (es : List Program) (d : over.Domain) → IsDomain es d → (t : T
 -- a shadow stands for its tree
 abbrev pub TellTheSame : Type 0
 TellTheSame = (es : List Program) (d : over.Domain) → IsDomain es d → (m : List ℕ → List ℕ) (t s : Tree) → IsShadow es d m t s → StandsFor es s t
-
--- a run ends in Error, or in a tree
-ended : (r : Outcome) → (r ≡ None) ⊎ ((u : Tree) × (r ≡ Some u))
-ended None = inl refl
-ended (Some u) = inr (u, refl)
 
 module _ (given : List Path) (es : List Program) (order : Relation) (long : length es ≡ order.count) (first : List ℕ) (is_first : IsFirstExtension order first) where
   -- one run in the first extension, behind the guard

@@ -8,3 +8,4 @@ pub mod Keeping
 pub mod Ends
 pub mod Verdicts
 pub mod Answers
+pub mod Asks

@@ -1,15 +1,13 @@
 //! Whether a second run changes anything.
 
-ghost use Rattle.std.specs.Prelude.{◌≡◌, ◌≢◌, ◌≤◌, ℕ, Bool, [], length, map, IfOk, IfSome};
-ghost use Rattle.fs_semantics.specs.Orders.{Told};
+ghost use Rattle.std.specs.Prelude.{◌≡◌, ◌≢◌, ℕ, Bool, [], length, map, IfOk, IfSome};
 ghost use Rattle.fs_lang.specs.Meaning.{program_of};
-ghost use Rattle.given_hosts.specs.Given.{IsDeterministicFrom};
 ghost use Rattle.given_hosts.specs.Guard.{guarded, GoesFirst};
 ghost use Rattle.orders.specs.Relation.{comes};
-ghost use Rattle.plans.specs.Plans.{meant_by};
 ghost use Rattle.apart_groups.specs.Groups.{AreGroups};
-ghost use Rattle.given_verdict.specs.Second.{NeverChangedFrom, IsSecondProofFrom, IsSettledFrom, AnswersAgainFrom};
+ghost use Rattle.given_verdict.specs.Asks.{AnswersAgainOn, IsDeterministicOn, IsSecondProofOn, IsSettledOn, NeverChangedOn};
 
+use crate::asking::Asking;
 use crate::behind::ask_others;
 use crate::keeping::all_keep;
 use crate::second::ask_second_from;
@@ -28,28 +26,21 @@ use std::alloc::Global;
 
 /// Whether a second run in another order changes anything, where one in the first extension doesn't. It doesn't where no program
 /// removes a given folder: all orders then end alike from what the first run left, too.
-fn ask_on(
-    alloc: Global,
-    plan: &Plan<'_>,
-    given: &[Path],
-    budget: u64,
-    same: Verified,
-) -> Result<Answer, NoMemory>
-    requires budget { 1 ≤ budget }
-    requires given { given.now ≢ [] }
-    requires deterministic { IsDeterministicFrom given.now (meant_by plan.now) (Told (comes plan.now.order.now)) }
-    requires never { NeverChangedFrom given.now (meant_by plan.now) plan.now.order.now }
-    requires same { IsSecondProofFrom given.now (meant_by plan.now) plan.now.order.now same.formula }
-    ensures { IfOk result (AnswersAgainFrom given.now (meant_by plan.now) plan.now.order.now budget) }
+fn ask_on(alloc: Global, asked: &Asking<'_>, same: Verified) -> Result<Answer, NoMemory>
+    requires given { asked.now.given.now ≢ [] }
+    requires deterministic { IsDeterministicOn asked.now }
+    requires never { NeverChangedOn asked.now }
+    requires same { IsSecondProofOn asked.now same.formula }
+    ensures { IfOk result (AnswersAgainOn asked.now) }
 {
     second_runs();
-    are_proper(plan.programs);
+    are_proper(asked.plan.programs);
     // The first extension stands for all orders.
-    has_first_extension(plan.order);
-    if all_keep(plan.programs, given) {
+    has_first_extension(asked.plan.order);
+    if all_keep(asked.plan.programs, asked.given) {
         return Ok(Answer::Refuted(same));
     }
-    ask_others(alloc, plan, given, budget, same)
+    ask_others(alloc, asked, same)
 }
 
 /// The programs and the guard in groups. Where no program removes a given folder the guard does nothing behind any of them, so that
@@ -79,66 +70,48 @@ fn groups_from(
 
 /// A refuted formula, where a second run changes nothing since it does so in no group of the programs and the guard. The guard may
 /// stand ahead of the second run too: where that ends as the first did, the given folders stand still.
-fn same_from_groups(
-    alloc: Global,
-    plan: &Plan<'_>,
-    given: &[Path],
-    budget: u64,
-) -> Result<Option<Verified>, NoMemory>
-    requires budget { 1 ≤ budget }
-    requires deterministic { IsDeterministicFrom given.now (meant_by plan.now) (Told (comes plan.now.order.now)) }
-    ensures { IfOk result (λ found. IfSome found (λ v. IsSettledFrom given.now (meant_by plan.now) plan.now.order.now v.formula)) }
+fn same_from_groups(alloc: Global, asked: &Asking<'_>) -> Result<Option<Verified>, NoMemory>
+    requires deterministic { IsDeterministicOn asked.now }
+    ensures { IfOk result (λ found. IfSome found (λ v. IsSettledOn asked.now v.formula)) }
 {
     guards();
     guarded_graphs();
-    let graph = with_guard(alloc, plan, given)?;
-    let groups = groups_from(alloc, plan.programs, &graph, given)?;
+    let graph = with_guard(alloc, asked.plan, asked.given)?;
+    let groups = groups_from(alloc, asked.plan.programs, &graph, asked.given)?;
     let whole = Plan {
         programs: graph.programs.as_slice(),
         order: &graph.order,
     };
-    let found = same_in_groups(alloc, &whole, groups.as_slice(), budget)?;
+    let found = same_in_groups(alloc, &whole, groups.as_slice(), asked.budget)?;
     Ok(found)
 }
 
 /// Asks whether a second run changes anything: of groups that don't touch one another, then in the first extension, and then in any
 /// order.
-fn again_guarded(
-    alloc: Global,
-    plan: &Plan<'_>,
-    given: &[Path],
-    budget: u64,
-) -> Result<Answer, NoMemory>
-    requires budget { 1 ≤ budget }
-    requires given { given.now ≢ [] }
-    requires deterministic { IsDeterministicFrom given.now (meant_by plan.now) (Told (comes plan.now.order.now)) }
-    ensures { IfOk result (AnswersAgainFrom given.now (meant_by plan.now) plan.now.order.now budget) }
+fn again_guarded(alloc: Global, asked: &Asking<'_>) -> Result<Answer, NoMemory>
+    requires given { asked.now.given.now ≢ [] }
+    requires deterministic { IsDeterministicOn asked.now }
+    ensures { IfOk result (AnswersAgainOn asked.now) }
 {
-    if let Some(same) = same_from_groups(alloc, plan, given, budget)? {
+    if let Some(same) = same_from_groups(alloc, asked)? {
         return Ok(Answer::Refuted(same));
     }
-    let found = ask_second_from(alloc, plan, given, budget)?;
+    let found = ask_second_from(alloc, asked)?;
     match found {
-        Answer::Refuted(same) => ask_on(alloc, plan, given, budget, same),
+        Answer::Refuted(same) => ask_on(alloc, asked, same),
         Answer::Shown(witness) => Ok(Answer::Shown(witness)),
         Answer::Spent(cnf, log) => Ok(Answer::Spent(cnf, log)),
     }
 }
 
 /// Asks whether a second run changes anything. Where no folder is given the graph itself is asked.
-pub(crate) fn ask_again_from(
-    alloc: Global,
-    plan: &Plan<'_>,
-    given: &[Path],
-    budget: u64,
-) -> Result<Answer, NoMemory>
-    requires budget { 1 ≤ budget }
-    requires deterministic { IsDeterministicFrom given.now (meant_by plan.now) (Told (comes plan.now.order.now)) }
-    ensures { IfOk result (AnswersAgainFrom given.now (meant_by plan.now) plan.now.order.now budget) }
+pub(crate) fn ask_again_from(alloc: Global, asked: &Asking<'_>) -> Result<Answer, NoMemory>
+    requires deterministic { IsDeterministicOn asked.now }
+    ensures { IfOk result (AnswersAgainOn asked.now) }
 {
     none_given();
-    if given.is_empty() {
-        return ask_second(alloc, plan, budget);
+    if asked.given.is_empty() {
+        return ask_second(alloc, asked.plan, asked.budget);
     }
-    again_guarded(alloc, plan, given, budget)
+    again_guarded(alloc, asked)
 }

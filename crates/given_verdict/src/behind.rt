@@ -1,7 +1,7 @@
 //! Whether all orders end alike behind a first run. It is asked where a program may remove a given folder: a second run then begins
 //! where that may be missing, and needn't end as from the trees in which it stands.
 
-ghost use Rattle.std.specs.Prelude.{◌≡◌, ◌≢◌, ◌↔◌, ◌≤◌, ◌<◌, [], ◌++◌, length, map, IsTrue, IfOk, OnOk};
+ghost use Rattle.std.specs.Prelude.{◌≡◌, ◌≢◌, ◌↔◌, ◌<◌, [], ◌++◌, length, map, IsTrue, IfOk, OnOk};
 ghost use Rattle.std.specs.List.{AllByRecursion};
 ghost use Rattle.fs_semantics.specs.Orders.{Told};
 ghost use Rattle.fs_lang.specs.Meaning.{program_of};
@@ -11,9 +11,11 @@ ghost use Rattle.sure_folders.specs.Pruning.{chosen};
 ghost use Rattle.orders.specs.Relation.{comes};
 ghost use Rattle.plans.specs.Plans.{meant_by};
 ghost use Rattle.proof_check.specs.Refuted.{HasNoModel};
-ghost use Rattle.given_verdict.specs.Second.{NeverChangedFrom, IsChangeFrom, AnswersAgainFrom};
-ghost use Rattle.given_verdict.specs.Behind.{IsJudgedBehind, IsDifferenceBehind, EndsDifferently, IsDifferentOf};
+ghost use Rattle.given_verdict.specs.Second.{IsChangeFrom};
+ghost use Rattle.given_verdict.specs.Behind.{IsDifferenceBehind, EndsDifferently, IsDifferentOf};
+ghost use Rattle.given_verdict.specs.Asks.{AnswersAgainOn, IsDeterministicOn, IsJudgedBehindOn, NeverChangedOn};
 
+use crate::asking::Asking;
 use crate::first::rest_of;
 use crate::second::push_all;
 use answering::Answer;
@@ -62,23 +64,17 @@ fn run_of(
 }
 
 /// Asks whether all orders end alike behind a run in the first extension.
-fn ask_behind(
-    alloc: Global,
-    plan: &Plan<'_>,
-    given: &[Path],
-    budget: u64,
-) -> Result<First, NoMemory>
-    requires { 1 ≤ budget }
-    ensures { IfOk result (IsJudgedBehind given.now (meant_by plan.now) plan.now.order.now budget) }
+fn ask_behind(alloc: Global, asked: &Asking<'_>) -> Result<First, NoMemory>
+    ensures { IfOk result (IsJudgedBehindOn asked.now) }
 {
-    let first = plan.order.first_extension()?;
-    let run = run_of(alloc, plan.programs, given, first.as_slice())?;
-    let graph = with_first(alloc, plan, run)?;
-    let asked = Plan {
+    let first = asked.plan.order.first_extension()?;
+    let run = run_of(alloc, asked.plan.programs, asked.given, first.as_slice())?;
+    let graph = with_first(alloc, asked.plan, run)?;
+    let guarded = Plan {
         programs: graph.programs.as_slice(),
         order: &graph.order,
     };
-    let answered = judge_order(alloc, &asked, budget)?;
+    let answered = judge_order(alloc, &guarded, asked.budget)?;
     Ok(answered)
 }
 
@@ -175,24 +171,24 @@ fn proof_of(alloc: Global, same: Verified, sure: Sure) -> Result<Verified, NoMem
 /// formula shows which was refuted.
 pub(crate) fn ask_others(
     alloc: Global,
-    plan: &Plan<'_>,
-    given: &[Path],
-    budget: u64,
+    asked: &Asking<'_>,
     same: Verified,
 ) -> Result<Answer, NoMemory>
-    requires budget { 1 ≤ budget }
-    requires given { given.now ≢ [] }
-    requires deterministic { IsDeterministicFrom given.now (meant_by plan.now) (Told (comes plan.now.order.now)) }
-    requires never { NeverChangedFrom given.now (meant_by plan.now) plan.now.order.now }
+    requires given { asked.now.given.now ≢ [] }
+    requires deterministic { IsDeterministicOn asked.now }
+    requires never { NeverChangedOn asked.now }
     requires same { HasNoModel same.formula }
-    ensures { IfOk result (AnswersAgainFrom given.now (meant_by plan.now) plan.now.order.now budget) }
+    ensures { IfOk result (AnswersAgainOn asked.now) }
 {
     guards();
     second_runs();
-    match ask_behind(alloc, plan, given, budget)? {
+    match ask_behind(alloc, asked)? {
         First::Sure { sure, .. } => Ok(Answer::Refuted(proof_of(alloc, same, sure)?)),
         First::Differs { witness, .. } => Ok(Answer::Shown(changed_run(
-            alloc, plan, given, witness,
+            alloc,
+            asked.plan,
+            asked.given,
+            witness,
         )?)),
         First::Spent { cnf, log, .. } => Ok(Answer::Spent(cnf, log)),
     }

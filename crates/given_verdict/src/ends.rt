@@ -1,14 +1,12 @@
 //! Whether the graph succeeds from a tree in which given folders stand.
 
-ghost use Rattle.std.specs.Prelude.{◌≢◌, ◌≤◌, [], IfOk};
-ghost use Rattle.fs_semantics.specs.Orders.{Told};
-ghost use Rattle.given_hosts.specs.Given.{IsDeterministicFrom};
-ghost use Rattle.orders.specs.Relation.{comes};
-ghost use Rattle.plans.specs.Plans.{meant_by};
-ghost use Rattle.given_verdict.specs.Ends.{AnswersEndFrom, IsFirstRun, IsRunOf, HasOneOrder};
+ghost use Rattle.std.specs.Prelude.{◌≢◌, [], IfOk};
+ghost use Rattle.given_verdict.specs.Ends.{IsFirstRun, IsRunOf, HasOneOrder};
+ghost use Rattle.given_verdict.specs.Asks.{AnswersEndOn, IsDeterministicOn};
 
+use crate::asking::Asking;
 use answering::Answer;
-use fs_lang::{Path, Tree};
+use fs_lang::Tree;
 use given_hosts::{guarded_graphs, guards, none_given};
 use guarded_graph::with_guard;
 use order_encode::Witness;
@@ -44,49 +42,37 @@ pub fn run_of(alloc: Global, order: &Order, witness: &Witness) -> Result<Witness
 }
 
 /// Asks whether the graph succeeds: the question of the graph with the guard in front. The order that is told has no guard.
-fn end_guarded(
-    alloc: Global,
-    plan: &Plan<'_>,
-    given: &[Path],
-    budget: u64,
-) -> Result<Answer, NoMemory>
-    requires budget { 1 ≤ budget }
-    requires given { given.now ≢ [] }
-    requires deterministic { IsDeterministicFrom given.now (meant_by plan.now) (Told (comes plan.now.order.now)) }
-    ensures { IfOk result (AnswersEndFrom given.now (meant_by plan.now) plan.now.order.now budget) }
+fn end_guarded(alloc: Global, asked: &Asking<'_>) -> Result<Answer, NoMemory>
+    requires given { asked.now.given.now ≢ [] }
+    requires deterministic { IsDeterministicOn asked.now }
+    ensures { IfOk result (AnswersEndOn asked.now) }
 {
     guards();
     guarded_graphs();
-    let graph = with_guard(alloc, plan, given)?;
+    let graph = with_guard(alloc, asked.plan, asked.given)?;
     // First extensions stand for all orders.
-    has_first_extension(plan.order);
+    has_first_extension(asked.plan.order);
     has_first_extension(&graph.order);
-    let asked = Plan {
+    let guarded = Plan {
         programs: graph.programs.as_slice(),
         order: &graph.order,
     };
-    let found = ask_end(alloc, &asked, budget)?;
+    let found = ask_end(alloc, &guarded, asked.budget)?;
     match found {
         Answer::Refuted(verified) => Ok(Answer::Refuted(verified)),
-        Answer::Shown(witness) => Ok(Answer::Shown(run_of(alloc, plan.order, &witness)?)),
+        Answer::Shown(witness) => Ok(Answer::Shown(run_of(alloc, asked.plan.order, &witness)?)),
         Answer::Spent(cnf, log) => Ok(Answer::Spent(cnf, log)),
     }
 }
 
 /// Asks whether the graph succeeds from a tree in which the given folders stand. Where no folder is given the graph itself is asked.
-pub fn ask_end_from(
-    alloc: Global,
-    plan: &Plan<'_>,
-    given: &[Path],
-    budget: u64,
-) -> Result<Answer, NoMemory>
-    requires budget { 1 ≤ budget }
-    requires deterministic { IsDeterministicFrom given.now (meant_by plan.now) (Told (comes plan.now.order.now)) }
-    ensures { IfOk result (AnswersEndFrom given.now (meant_by plan.now) plan.now.order.now budget) }
+pub(crate) fn ask_end_from(alloc: Global, asked: &Asking<'_>) -> Result<Answer, NoMemory>
+    requires deterministic { IsDeterministicOn asked.now }
+    ensures { IfOk result (AnswersEndOn asked.now) }
 {
     none_given();
-    if given.is_empty() {
-        return ask_end(alloc, plan, budget);
+    if asked.given.is_empty() {
+        return ask_end(alloc, asked.plan, asked.budget);
     }
-    end_guarded(alloc, plan, given, budget)
+    end_guarded(alloc, asked)
 }

@@ -1,16 +1,16 @@
 //! Whether a graph is deterministic from the trees in which given folders stand.
 
-ghost use Rattle.std.specs.Prelude.{◌≡◌, ◌≢◌, ◌≤◌, [], drop, IfOk};
-ghost use Rattle.plans.specs.Plans.{meant_by};
+ghost use Rattle.std.specs.Prelude.{◌≡◌, ◌≢◌, [], drop, IfOk};
 ghost use Rattle.determinism.specs.First.{IfDiffers};
 ghost use Rattle.determinism.specs.Answers.{HasTwoOrders};
 ghost use Rattle.determinism.specs.declared.first.First.TheVariants as variants;
-ghost use Rattle.given_verdict.specs.First.{IsJudgedFrom, IsUnguarded, IsAnswerWithout};
+ghost use Rattle.given_verdict.specs.First.{IsUnguarded, IsAnswerWithout};
 ghost use Rattle.given_verdict.specs.Settled.{without};
+ghost use Rattle.given_verdict.specs.Asks.{IsJudgedOn};
 
+use crate::asking::Asking;
 use commute_prune::pruning;
 use determinism::{First, judge_order};
-use fs_lang::Path;
 use given_hosts::{guarded_graphs, guards};
 use guarded_graph::{guard_is_pruned, with_guard};
 use order_encode::Witness;
@@ -87,42 +87,30 @@ pub fn settled_without(settled: Settled) -> Settled
 }
 
 /// Asks about the graph with the guard in front. What pruning keeps is what it keeps of the programs, whatever is given.
-fn first_guarded(
-    alloc: Global,
-    plan: &Plan<'_>,
-    given: &[Path],
-    budget: u64,
-) -> Result<First, NoMemory>
-    requires budget { 1 ≤ budget }
-    requires given { given.now ≢ [] }
-    ensures { IfOk result (IsJudgedFrom given.now (meant_by plan.now) plan.now.order.now budget) }
+fn first_guarded(alloc: Global, asked: &Asking<'_>) -> Result<First, NoMemory>
+    requires given { asked.now.given.now ≢ [] }
+    ensures { IfOk result (IsJudgedOn asked.now) }
 {
     pruning();
     guards();
     guarded_graphs();
     guard_is_pruned();
-    let graph = with_guard(alloc, plan, given)?;
-    let asked = Plan {
+    let graph = with_guard(alloc, asked.plan, asked.given)?;
+    let guarded = Plan {
         programs: graph.programs.as_slice(),
         order: &graph.order,
     };
-    let answered = judge_order(alloc, &asked, budget)?;
+    let answered = judge_order(alloc, &guarded, asked.budget)?;
     answer_without(alloc, answered)
 }
 
 /// Whether the programs are deterministic from the trees in which the given folders stand, however large the graph is. Where no folder
 /// is given the graph itself is asked.
-pub fn first_from(
-    alloc: Global,
-    plan: &Plan<'_>,
-    given: &[Path],
-    budget: u64,
-) -> Result<First, NoMemory>
-    requires { 1 ≤ budget }
-    ensures { IfOk result (IsJudgedFrom given.now (meant_by plan.now) plan.now.order.now budget) }
+pub(crate) fn first_from(alloc: Global, asked: &Asking<'_>) -> Result<First, NoMemory>
+    ensures { IfOk result (IsJudgedOn asked.now) }
 {
-    if given.is_empty() {
-        return judge_order(alloc, plan, budget);
+    if asked.given.is_empty() {
+        return judge_order(alloc, asked.plan, asked.budget);
     }
-    first_guarded(alloc, plan, given, budget)
+    first_guarded(alloc, asked)
 }

@@ -1,26 +1,22 @@
 //! Answering the three questions.
 
-ghost use Rattle.std.specs.Prelude.{◌≤◌, IfOk, IfErr};
+ghost use Rattle.std.specs.Prelude.{IfOk, IfErr};
 ghost use Rattle.rh_base.specs.Refused.{IfRefused};
-ghost use Rattle.fs_semantics.specs.Orders.{Told};
-ghost use Rattle.given_hosts.specs.Given.{IsIdempotentFrom};
-ghost use Rattle.orders.specs.Relation.{comes};
 ghost use Rattle.plans.specs.Plans.{meant_by};
 ghost use Rattle.determinism.specs.declared.first.First.TheVariants as first;
 ghost use Rattle.question_terms.specs.Terms.{budget_of};
 ghost use Rattle.given_verdict.specs.Limits.{HasFewPathsWith, IsLightWith, IsTooLargeWith};
-ghost use Rattle.given_verdict.specs.First.{IsJudgedFrom};
-ghost use Rattle.given_verdict.specs.Second.{IsSecondProofFrom};
 ghost use Rattle.given_verdict.specs.Answers.{IsVerdictFrom};
+ghost use Rattle.given_verdict.specs.Asks.{IsIdempotentOn, IsJudgedOn, IsSecondProofOn, IsVerdictOn};
 
 use crate::again::ask_again_from;
+use crate::asking::Asking;
 use crate::ends::{ask_end_from, run_of};
 use crate::first::first_from;
 use crate::limits::check_size_with;
 use crate::refuted::{order_proofs, two_proofs};
 use answering::Answer;
 use determinism::{First, Sure};
-use fs_lang::Path;
 use plans::Plan;
 use proof_check::Verified;
 use question_terms::Terms;
@@ -31,20 +27,17 @@ use verdict::{Asked, Ends, Second, Verdict};
 /// Asks whether the graph succeeds, where no second run changes anything.
 fn judge_same(
     alloc: Global,
-    plan: &Plan<'_>,
-    given: &[Path],
-    budget: u64,
+    asked: &Asking<'_>,
     pruned: u32,
     sure: Sure,
     same: Verified,
 ) -> Result<Verdict, NoMemory>
-    requires budget { 1 ≤ budget }
-    requires judged { IsJudgedFrom given.now (meant_by plan.now) plan.now.order.now budget (first.Sure pruned sure) }
-    requires idempotent { IsIdempotentFrom given.now (meant_by plan.now) (Told (comes plan.now.order.now)) }
-    requires same { IsSecondProofFrom given.now (meant_by plan.now) plan.now.order.now same.formula }
-    ensures { IfOk result (IsVerdictFrom given.now (meant_by plan.now) plan.now.order.now budget) }
+    requires judged { IsJudgedOn asked.now (first.Sure pruned sure) }
+    requires idempotent { IsIdempotentOn asked.now }
+    requires same { IsSecondProofOn asked.now same.formula }
+    ensures { IfOk result (IsVerdictOn asked.now) }
 {
-    let end = ask_end_from(alloc, plan, given, budget)?;
+    let end = ask_end_from(alloc, asked)?;
     match end {
         Answer::Shown(witness) => Ok(Verdict::Judged {
             pruned,
@@ -74,21 +67,18 @@ fn judge_same(
 /// Asks about second runs of a deterministic graph.
 fn judge_sure(
     alloc: Global,
-    plan: &Plan<'_>,
-    given: &[Path],
-    budget: u64,
+    asked: &Asking<'_>,
     pruned: u32,
     sure: Sure,
 ) -> Result<Verdict, NoMemory>
-    requires budget { 1 ≤ budget }
-    requires judged { IsJudgedFrom given.now (meant_by plan.now) plan.now.order.now budget (first.Sure pruned sure) }
-    ensures { IfOk result (IsVerdictFrom given.now (meant_by plan.now) plan.now.order.now budget) }
+    requires judged { IsJudgedOn asked.now (first.Sure pruned sure) }
+    ensures { IfOk result (IsVerdictOn asked.now) }
 {
-    let again = ask_again_from(alloc, plan, given, budget)?;
+    let again = ask_again_from(alloc, asked)?;
     match again {
-        Answer::Refuted(same) => judge_same(alloc, plan, given, budget, pruned, sure, same),
+        Answer::Refuted(same) => judge_same(alloc, asked, pruned, sure, same),
         Answer::Shown(witness) => {
-            let end = run_of(alloc, plan.order, &witness)?;
+            let end = run_of(alloc, asked.plan.order, &witness)?;
             Ok(Verdict::Judged {
                 pruned,
                 sure,
@@ -110,19 +100,12 @@ fn judge_sure(
 }
 
 /// Goes on from the answer to the first question.
-fn judge_on(
-    alloc: Global,
-    plan: &Plan<'_>,
-    given: &[Path],
-    budget: u64,
-    answered: First,
-) -> Result<Verdict, NoMemory>
-    requires budget { 1 ≤ budget }
-    requires judged { IsJudgedFrom given.now (meant_by plan.now) plan.now.order.now budget answered }
-    ensures { IfOk result (IsVerdictFrom given.now (meant_by plan.now) plan.now.order.now budget) }
+fn judge_on(alloc: Global, asked: &Asking<'_>, answered: First) -> Result<Verdict, NoMemory>
+    requires judged { IsJudgedOn asked.now answered }
+    ensures { IfOk result (IsVerdictOn asked.now) }
 {
     match answered {
-        First::Sure { pruned, sure } => { judge_sure(alloc, plan, given, budget, pruned, sure) }
+        First::Sure { pruned, sure } => { judge_sure(alloc, asked, pruned, sure) }
         First::Differs { pruned, witness } => Ok(Verdict::NotDeterministic { pruned, witness }),
         First::Spent { pruned, cnf, log } => Ok(Verdict::Spent {
             pruned,
@@ -135,17 +118,11 @@ fn judge_on(
 }
 
 /// The verdict on a graph, however large it is.
-fn judged_from(
-    alloc: Global,
-    plan: &Plan<'_>,
-    given: &[Path],
-    budget: u64,
-) -> Result<Verdict, NoMemory>
-    requires { 1 ≤ budget }
-    ensures { IfOk result (IsVerdictFrom given.now (meant_by plan.now) plan.now.order.now budget) }
+fn judged_from(alloc: Global, asked: &Asking<'_>) -> Result<Verdict, NoMemory>
+    ensures { IfOk result (IsVerdictOn asked.now) }
 {
-    let answered = first_from(alloc, plan, given, budget)?;
-    judge_on(alloc, plan, given, budget, answered)
+    let answered = first_from(alloc, asked)?;
+    judge_on(alloc, asked, answered)
 }
 
 /// Whether the programs are deterministic from the trees in which the given folders stand; where they are, whether a second run
@@ -163,6 +140,12 @@ pub fn judge_from(alloc: Global, plan: &Plan<'_>, terms: &Terms) -> Result<Verdi
 {
     let given = terms.given.as_slice();
     check_size_with(alloc, plan.programs, given, terms.limits)?;
-    let verdict = judged_from(alloc, plan, given, terms.budget())?;
+    let budget = terms.budget();
+    let asked = Asking {
+        plan,
+        given,
+        budget,
+    };
+    let verdict = judged_from(alloc, &asked)?;
     Ok(verdict)
 }

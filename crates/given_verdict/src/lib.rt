@@ -4,6 +4,7 @@
 #![tactic(auto)]
 
 mod again;
+mod asking;
 mod behind;
 mod ends;
 mod first;
@@ -13,7 +14,7 @@ mod limits;
 mod refuted;
 mod second;
 
-pub use ends::{ask_end_from, run_of};
-pub use first::{answer_without, first_from, settled_without};
+pub use ends::run_of;
+pub use first::{answer_without, settled_without};
 pub use judging::judge_from;
 pub use limits::check_size_with;

@@ -1,14 +1,16 @@
 //! Whether a second run changes anything, where the first begins in a tree in which given folders stand. The guard stands ahead of
 //! the first run alone: the second begins in what the first left.
 
-ghost use Rattle.std.specs.Prelude.{◌≡◌, ◌≢◌, ◌≤◌, [], ◌∷◌, ◌++◌, IfOk, OnOk};
+ghost use Rattle.std.specs.Prelude.{◌≡◌, ◌≢◌, [], ◌∷◌, ◌++◌, IfOk, OnOk};
 ghost use Rattle.plans.specs.Plans.{meant_by};
 ghost use Rattle.proof_check.specs.Refuted.{HasNoModel};
 ghost use Rattle.order_encode.specs.Asked.{CanShow};
 ghost use Rattle.order_encode.specs.declared.witness.Witness.{Witness};
 ghost use Rattle.answering.specs.Answers.{AnswersBy};
-ghost use Rattle.given_verdict.specs.Second.{StatesSecondFrom, NeverChangedFrom, IsChangeTree, IsOfEnd, IsWithFirst, AnswersSecondFrom};
+ghost use Rattle.given_verdict.specs.Second.{StatesSecondFrom, NeverChangedFrom, IsChangeTree, IsOfEnd, IsWithFirst};
+ghost use Rattle.given_verdict.specs.Asks.{AnswersSecondOn, IsChangeTreeOn, NeverChangedOn, StatesSecondOn};
 
+use crate::asking::Asking;
 use answering::{Answer, answer_to};
 use finite_domain::{domains, shadows};
 use fs_lang::Path;
@@ -90,33 +92,26 @@ fn with_first(order: &Order, witness: Witness) -> Result<Witness, NoMemory>
 }
 
 /// Asks it.
-fn ask_runs(alloc: Global, plan: &Plan<'_>, given: &[Path], budget: u64) -> Result<Answer, NoMemory>
-    requires budget { 1 ≤ budget }
-    requires given { given.now ≢ [] }
-    ensures { IfOk result (AnswersBy (StatesSecondFrom given.now (meant_by plan.now) plan.now.order.now)
-        (NeverChangedFrom given.now (meant_by plan.now) plan.now.order.now)
-        (IsChangeTree given.now (meant_by plan.now) plan.now.order.now) budget) }
+fn ask_runs(alloc: Global, asked: &Asking<'_>) -> Result<Answer, NoMemory>
+    requires given { asked.now.given.now ≢ [] }
+    ensures { IfOk result (AnswersBy (StatesSecondOn asked.now)
+        (NeverChangedOn asked.now)
+        (IsChangeTreeOn asked.now) asked.now.budget) }
 {
-    let question = second_question(alloc, plan, given)?;
-    answer_to(alloc, question, budget)
+    let question = second_question(alloc, asked.plan, asked.given)?;
+    answer_to(alloc, question, asked.budget)
 }
 
 /// Asks whether a second run in the first extension changes anything, where the first run begins in a tree in which the given folders
 /// stand.
-pub(crate) fn ask_second_from(
-    alloc: Global,
-    plan: &Plan<'_>,
-    given: &[Path],
-    budget: u64,
-) -> Result<Answer, NoMemory>
-    requires budget { 1 ≤ budget }
-    requires given { given.now ≢ [] }
-    ensures { IfOk result (AnswersSecondFrom given.now (meant_by plan.now) plan.now.order.now budget) }
+pub(crate) fn ask_second_from(alloc: Global, asked: &Asking<'_>) -> Result<Answer, NoMemory>
+    requires given { asked.now.given.now ≢ [] }
+    ensures { IfOk result (AnswersSecondOn asked.now) }
 {
     allowed_orders();
-    let found = ask_runs(alloc, plan, given, budget)?;
+    let found = ask_runs(alloc, asked)?;
     match found {
-        Answer::Shown(witness) => Ok(Answer::Shown(with_first(plan.order, witness)?)),
+        Answer::Shown(witness) => Ok(Answer::Shown(with_first(asked.plan.order, witness)?)),
         Answer::Refuted(verified) => Ok(Answer::Refuted(verified)),
         Answer::Spent(cnf, log) => Ok(Answer::Spent(cnf, log)),
     }

@@ -13,7 +13,9 @@ use Rattle.graph_semantics.specs.Graphs.{Node, Start, End, rank, IsContainerAt, 
 use Rattle.graph_semantics.specs.Allowed.{IsNode, NoneAhead, is_plain, is_plain_node, plain_part, plain_nodes, IsLeft, Tells}
 use Rattle.graph_semantics.proofs.RealPlaces.{within, plain_at, plain_in}
 use Rattle.graph_semantics.proofs.Inserting.{inserted, all_inserted, none_ahead_inserted, times_inserted, filter_inserted}
-use Rattle.graph_semantics.proofs.Basics.{no_way, not_true, some_same}
+use Rattle.graph_semantics.proofs.Basics.{no_way}
+use Rattle.std.proofs.lemmas.Option.{same_Some}
+use Rattle.std.proofs.lemmas.Bool.{not-true}
 
 -- ---- the places of plain resources stand once
 
@@ -134,7 +136,7 @@ module _ (c : Catalog) where
   -- where one is told to stand, one does
   container_at : (place : ℕ) (o : Option Resource) → real_at c place ≡ o → is_container o ≡ true → IsContainerAt c place
   container_at place None is h = absurd (no_way h)
-  container_at place (Some r) is h = record { resource = r; real = is; sort = not_true (is_plain_sort r.sort) h }
+  container_at place (Some r) is h = record { resource = r; real = is; sort = not-true (is_plain_sort r.sort) h }
 
   -- they are nodes
   others_are_nodes : (n : ℕ) → AllByRecursion (IsNode c) (others n)
@@ -244,7 +246,7 @@ module _ (c : Catalog) where
   no_plain : (p : ℕ) (r : Resource) → real_at c p ≡ Some r → is_plain_sort r.sort ≡ false → (i : ℕ) → i < length plain → slice_index plain i ≡ p → ⊥
   no_plain p r real h i less same =
       let at = below_plain c i less in
-      let one = some_same at.0 r (sym at.1.real ∙ ap (real_at c) same ∙ real) in
+      let one = same_Some at.0 r (sym at.1.real ∙ ap (real_at c) same ∙ real) in
       no_way (sym h ∙ sym (ap (λ (x : Resource). is_plain_sort x.sort) one) ∙ at.1.plain)
 
   -- twice a number is an even one

@@ -3,6 +3,7 @@ use Rattle.std.proofs.Common.{◌≡◌, ℕ, zero, suc, ◌<◌, List, [], ◌�
 use Rattle.std.specs.Prelude.{slice_get, filter}
 use Rattle.std.specs.List.{Contains, flat_map, list_any}
 use Rattle.std.proofs.lemmas.List.Elements.{Contains-append_left, Contains-append_right, Contains-append_cases}
+use Rattle.std.proofs.lemmas.Bool.{or_right, or_left}
 
 -- what follows from both cases follows
 pub either_way : {A B C : Type 0} → (A → C) → (B → C) → A ⊎ B → C
@@ -116,16 +117,6 @@ any_in p [] h = absurd (false_true h) where
   false_true : false ≡ true → ⊥
   false_true h = cc
 any_in p (z ∷ xs) h = any_at z p (p z) (list_any p xs) xs refl (any_in p xs) h
-
--- a disjunction holds where its first side does
-or_left : (t r : Bool) → t ≡ true → (t || r) ≡ true
-or_left true r h = refl
-or_left false r h = cc
-
--- and where its second does
-or_right : (t r : Bool) → r ≡ true → (t || r) ≡ true
-or_right true r h = refl
-or_right false r h = h
 
 -- where one of the list passes, it is told
 pub in_any : {X : Type 0} (p : X → Bool) (xs : List X) (x : X) → Contains xs x → p x ≡ true → list_any p xs ≡ true

@@ -8,7 +8,9 @@ use Rattle.graph_semantics.specs.Relations.{real_at, if_real}
 use Rattle.graph_semantics.specs.Automatic.{IsPlainAt}
 use Rattle.graph_semantics.specs.Graphs.{plain_from, plain_places}
 use Rattle.graph_semantics.proofs.Elements.{either_way, none_in, head_in, tail_in, in_cases, got_within}
-use Rattle.graph_semantics.proofs.Basics.{no_way, both_true, true_both, not_true, some_same}
+use Rattle.graph_semantics.proofs.Basics.{no_way}
+use Rattle.std.proofs.lemmas.Bool.{and_parts, not-true, and_from}
+use Rattle.std.proofs.lemmas.Option.{same_Some}
 
 -- ---- a real resource stands among the resources
 
@@ -22,7 +24,7 @@ real_stands (Some q) r h = by_flag q.is_virtual refl h where
   by_flag true is k = absurd (none_some k) where
     none_some : ◌≡◌ {A = Option Resource} None (Some r) → ⊥
     none_some k = cc
-  by_flag false is k = (k, subst (λ (x : Resource). x.is_virtual ≡ false) (some_same q r k) is)
+  by_flag false is k = (k, subst (λ (x : Resource). x.is_virtual ≡ false) (same_Some q r k) is)
 
 -- what is real at a place stands there
 pub stands : (c : Catalog) (place : ℕ) (r : Resource) → real_at c place ≡ Some r → slice_get c.resources place ≡ Some r
@@ -55,8 +57,8 @@ one_on n k r resources h = record { index = suc h.index; resource = h.resource; 
 plain_step : (n k : ℕ) (r : Resource) (resources : List Resource) (t : Bool) → (is_plain_sort r.sort && not r.is_virtual) ≡ t → (Contains (plain_from (n + 1) resources) k → StandsPlain (n + 1) resources k)
     → Contains (cond t (n ∷ plain_from (n + 1) resources) (plain_from (n + 1) resources)) k → StandsPlain n (r ∷ resources) k
 plain_step n k r resources true is f h =
-    let both = both_true (is_plain_sort r.sort) (not r.is_virtual) is in
-    either_way (λ e. record { index = 0; resource = r; at = refl; is = omega (arith, e); plain = both.0; real = not_true r.is_virtual both.1 }) (λ m. one_on n k r resources (f m))
+    let both = and_parts (is_plain_sort r.sort) (not r.is_virtual) is in
+    either_way (λ e. record { index = 0; resource = r; at = refl; is = omega (arith, e); plain = both.0; real = not-true r.is_virtual both.1 }) (λ m. one_on n k r resources (f m))
     (in_cases n k (plain_from (n + 1) resources) h)
 plain_step n k r resources false is f h = one_on n k r resources (f h)
 
@@ -66,12 +68,12 @@ plain_stands n k [] h = absurd (none_in k h)
 plain_stands n k (r ∷ resources) h = plain_step n k r resources (is_plain_sort r.sort && not r.is_virtual) refl (plain_stands (n + 1) k resources) h
 
 -- a plain resource has its place kept
-first_plain : (n : ℕ) (t : Bool) (rest : List ℕ) → t ≡ true → Contains (cond t (n ∷ rest) rest) n
+pub first_plain : (n : ℕ) (t : Bool) (rest : List ℕ) → t ≡ true → Contains (cond t (n ∷ rest) rest) n
 first_plain n true rest h = head_in n rest
 first_plain n false rest h = absurd (no_way h)
 
 -- so have those further on
-later_plain : (n k : ℕ) (t : Bool) (rest : List ℕ) → Contains rest k → Contains (cond t (n ∷ rest) rest) k
+pub later_plain : (n k : ℕ) (t : Bool) (rest : List ℕ) → Contains rest k → Contains (cond t (n ∷ rest) rest) k
 later_plain n k true rest h = tail_in n k rest h
 later_plain n k false rest h = h
 
@@ -83,14 +85,14 @@ plain_in_from n i [] r h p = absurd (none_some h) where
 plain_in_from n zero (q ∷ resources) r h p =
     let first : n ≡ n + 0 = omega arith in
     subst (Contains (plain_from n (q ∷ resources))) first
-    (first_plain n (is_plain_sort q.sort && not q.is_virtual) (plain_from (n + 1) resources) (ap (λ (x : Resource). is_plain_sort x.sort && not x.is_virtual) (some_same q r h) ∙ p))
+    (first_plain n (is_plain_sort q.sort && not q.is_virtual) (plain_from (n + 1) resources) (ap (λ (x : Resource). is_plain_sort x.sort && not x.is_virtual) (same_Some q r h) ∙ p))
 plain_in_from n (suc i) (q ∷ resources) r h p =
     let next : (n + 1) + i ≡ n + suc i = omega arith in
     later_plain n (n + suc i) (is_plain_sort q.sort && not q.is_virtual) (plain_from (n + 1) resources)
     (subst (Contains (plain_from (n + 1) resources)) next (plain_in_from (n + 1) i resources r h p))
 
 -- a resource that isn't virtual is real
-real_of : (r : Resource) (t : Bool) → r.is_virtual ≡ t → t ≡ false → cond t None (Some r) ≡ Some r
+pub real_of : (r : Resource) (t : Bool) → r.is_virtual ≡ t → t ≡ false → cond t None (Some r) ≡ Some r
 real_of r true is h = absurd (no_way (sym h))
 real_of r false is h = refl
 
@@ -111,4 +113,4 @@ pub plain_in : (c : Catalog) (k : ℕ) (r : Resource) → IsPlainAt c k r → Co
 plain_in c k r h =
     let zero_more : 0 + k ≡ k = omega arith in
     subst (Contains (plain_places c)) zero_more
-    (plain_in_from 0 k c.resources r (stands c k r h.real) (true_both (is_plain_sort r.sort) (not r.is_virtual) h.plain (ap not (isnt_virtual c k r h.real))))
+    (plain_in_from 0 k c.resources r (stands c k r h.real) (and_from (is_plain_sort r.sort) (not r.is_virtual) h.plain (ap not (isnt_virtual c k r h.real))))

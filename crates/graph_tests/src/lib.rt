@@ -2,14 +2,4 @@
 #![tactic(auto)]
 
 #[cfg(test)]
-mod automatic;
-#[cfg(test)]
-mod circles;
-#[cfg(test)]
-mod drafts;
-#[cfg(test)]
-mod missing;
-#[cfg(test)]
-mod relations;
-#[cfg(test)]
-mod sizes;
+mod tests;

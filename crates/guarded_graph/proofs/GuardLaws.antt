@@ -12,6 +12,7 @@ use Rattle.commute_prune.specs.Pairs.{pairs_of}
 use Rattle.commute_prune.proofs.PairLaws.{pairs_from, pairs_in}
 use Rattle.kept_graph.proofs.PairLaws.{pairs_bounded}
 use Rattle.given_hosts.specs.Guard.{need, need_all, guard_before}
+use Rattle.std.proofs.lemmas.Bool.{and_parts}
 
 -- programs that mean the needs of the given folders are the guard's steps
 pub steps_are : (es : List Program) (given : List Segments) → map program_of es ≡ map need given → programs_in es ≡ need_all given
@@ -24,11 +25,6 @@ steps_are (e ∷ es) (p ∷ given) h =
     ap₂ next first (steps_are es given others)
 
 -- ---- what the test tells
-
--- of a conjunction that is true both sides are true
-both : (a b : Bool) → (a && b) ≡ true → (a ≡ true) × (b ≡ true)
-both true b h = (refl, h)
-both false b h = cc
 
 -- no number is below itself
 not_below : (n : ℕ) → nat_lt n n ≡ false
@@ -68,7 +64,7 @@ module _ (order : Relation) (strict : IsStrictOrder order) where
   -- what is told to come before is so
   told : (a b : ℕ) → IsTrue (guard_before order.count (comes order) a b) → Told a b
   told a b h =
-      let two = both (nat_lt b order.count) ((a == order.count) || comes order a b) h in
+      let two = and_parts (nat_lt b order.count) ((a == order.count) || comes order a b) h in
       let low = ltb-true b order.count two.0 in
       record { low = low; from = λ n. sym (told_other order.count (comes order) a b n low) ∙ h }
 

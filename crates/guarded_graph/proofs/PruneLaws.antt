@@ -13,8 +13,9 @@ use Rattle.commute_prune.specs.Pruning.{ApartAt, MayBeLast, MayBeFirst, Prunes}
 use Rattle.sure_folders.specs.Pruning.{without, Move, ToFirst, ToLast}
 use Rattle.commute_prune.specs.Keeping.{Keeps}
 use Rattle.sure_folders.proofs.Lists.{none_left, others_left}
-use Rattle.commute_prune.proofs.StepLaws.{up_below, without_keeps}
+use Rattle.commute_prune.proofs.StepLaws.{without_keeps}
 use Rattle.given_hosts.specs.Guard.{guard, guarded}
+use Rattle.fs_semantics.proofs.Ground.{up_below}
 
 -- ---- numbers that are taken out
 

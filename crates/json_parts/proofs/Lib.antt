@@ -1,1 +1,2 @@
+pub mod DataLaws
 pub mod StoredLaws

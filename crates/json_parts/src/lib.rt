@@ -4,5 +4,5 @@
 mod reading;
 mod writing;
 
-pub use reading::text_of;
+pub use reading::{has_version, text_of};
 pub use writing::{append, put_member, text_json};

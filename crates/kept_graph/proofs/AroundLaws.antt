@@ -11,11 +11,7 @@ use Rattle.commute_prune.specs.Pairs.{pairs_of}
 use Rattle.commute_prune.proofs.PairLaws.{pairs_from, pairs_in}
 use Rattle.kept_graph.specs.Contracted.{Around, star}
 use Rattle.kept_graph.proofs.CompletionLaws.{extension_by}
-
--- no number from n on stands in a list of numbers below n
-pub outside : (n j : ℕ) (o : List ℕ) → AllByRecursion (λ i. i < n) o → n ≤ j → times j o ≡ 0
-outside n j [] all h = refl
-outside n j (i ∷ o) all h = let low : i < n = all.0 in times_other j i o (λ e. omega arith) ∙ outside n j o all.1 h
+use Rattle.fs_semantics.proofs.Commuting.{none_above}
 
 -- numbers below n, and then n + 1, are below n + 2
 widened : (n : ℕ) (o : List ℕ) → AllByRecursion (λ i. i < n) o → AllByRecursion (λ i. i < n + 2) (o ++ (n + 1) ∷ [])
@@ -58,7 +54,7 @@ module _ (n : ℕ) (before : ℕ → ℕ → Type 0) where
           omega (arith, times_other k n (mid ++ (n + 1) ∷ []) (λ f. omega (arith, f, low)), apart, a.once k low, times_other k (n + 1) [] (λ f. omega (arith, f, low)))
       by false e =
           let high = ltb-false k n e in
-          let none = outside n k mid a.below (omega (arith, high)) in
+          let none = none_above n k mid a.below (omega (arith, high)) in
           elim (k == n) as (λ b. (k == n) ≡ b → times k (wrapped mid) ≡ 1) [
             | true ↦ λ f.
                 let same = eqb-true k n f in

@@ -9,6 +9,7 @@ use Rattle.orders.specs.Relation.{Relation, comes, Comes}
 use Rattle.sure_folders.specs.Pruning.{firsts, lasts, chosen, between}
 use Rattle.kept_graph.specs.declared.kept.Kept.{Kept}
 use Rattle.kept_graph.specs.Kept.{IsKept, completion}
+use Rattle.sure_folders.proofs.Places.{counted}
 
 -- ---- one relation in the place of another
 
@@ -28,12 +29,6 @@ module _ (n : ℕ) (before other : ℕ → ℕ → Type 0) (less : (a b : ℕ) �
   extension_by o a = record { below = a.below; once = a.once; kept = none_ahead o a.below a.kept }
 
 -- ---- places
-
--- what stands at a place of a list stands in it
-counted : (ks : List ℕ) (i : ℕ) → i < length ks → 0 < times (get_or ks i 0) ks
-counted [] i h = absurd (omega arith)
-counted (j ∷ ks) zero h = omega (arith, times_itself j ks)
-counted (j ∷ ks) (suc i) h = omega (arith, counted ks i (omega arith))
 
 -- a number that stands at most once stands at one place
 twice : (k : ℕ) (ks : List ℕ) (i : ℕ) → i < length ks → k ≡ get_or ks i 0 → ((j : ℕ) → times j (k ∷ ks) ≤ 1) → ⊥

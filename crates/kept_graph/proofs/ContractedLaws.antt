@@ -5,7 +5,7 @@ use Rattle.std.specs.List.{AllByRecursion}
 use Rattle.fs_semantics.specs.FileTree.{Tree, IsTree}
 use Rattle.fs_semantics.specs.Programs.{Program, Id, Outcome, and_then, run, run_all}
 use Rattle.fs_semantics.specs.Orders.{Told, IsLinearExtension, IsDeterministic, IsCounterexample, IsFree, IsExchange, times, outcome}
-use Rattle.fs_semantics.proofs.Counts.{all_at, all_back}
+use Rattle.fs_semantics.proofs.Counts.{all_at, all_back, all_append}
 use Rattle.fs_semantics.proofs.Commuting.{outcome-append}
 use Rattle.fs_lang.specs.declared.program.Program.{Program as CodeProgram}
 use Rattle.fs_lang.specs.declared.program.Program.TheVariants as code
@@ -21,6 +21,8 @@ use Rattle.kept_graph.specs.Kept.{completion}
 use Rattle.kept_graph.specs.Contracted.{Around, steps_of, as_one, contracted_programs, IsContracted, members, expanded}
 use Rattle.kept_graph.proofs.CompletionLaws.{length-chosen, extension_by, one_place}
 use Rattle.kept_graph.proofs.AroundLaws.{shape, wrapped, wraps}
+use Rattle.std.proofs.lemmas.List.{append-nil}
+use Rattle.sure_folders.proofs.Places.{program_at}
 
 -- ---- programs
 
@@ -41,18 +43,13 @@ firsts_below es before n (ToFirst k ∷ moves) ks kept leads all =
     (all_at (λ j. j < n) ks k all (omega (arith, leads.0.once)), firsts_below es before n moves (without k ks) kept leads.1 (without_keeps (λ j. j < n) k ks all))
 firsts_below es before n (ToLast k ∷ moves) ks kept leads all = firsts_below es before n moves (without k ks) kept leads.1 (without_keeps (λ j. j < n) k ks all)
 
--- what holds of all of two lists holds of all of the one behind the other
-all_joined : (P : ℕ → Type 0) (xs ys : List ℕ) → AllByRecursion P xs → AllByRecursion P ys → AllByRecursion P (xs ++ ys)
-all_joined P [] ys h k = k
-all_joined P (x ∷ xs) ys h k = (h.0, all_joined P xs ys h.1 k)
-
 -- what goes last is among the numbers that there were
 pub lasts_below : (es : List Program) (before : ℕ → ℕ → Type 0) (n : ℕ) (moves : List Move) (ks kept : List ℕ) → Leads es before moves ks kept → AllByRecursion (λ k. k < n) ks
     → AllByRecursion (λ k. k < n) (lasts moves)
 lasts_below es before n [] ks kept leads all = tt
 lasts_below es before n (ToFirst k ∷ moves) ks kept leads all = lasts_below es before n moves (without k ks) kept leads.1 (without_keeps (λ j. j < n) k ks all)
 lasts_below es before n (ToLast k ∷ moves) ks kept leads all =
-    all_joined (λ j. j < n) (lasts moves) (k ∷ []) (lasts_below es before n moves (without k ks) kept leads.1 (without_keeps (λ j. j < n) k ks all))
+    all_append (λ j. j < n) (lasts moves) (k ∷ []) (lasts_below es before n moves (without k ks) kept leads.1 (without_keeps (λ j. j < n) k ks all))
     (all_at (λ j. j < n) ks k all (omega (arith, leads.0.once)), tt)
 
 -- ---- places in two lists
@@ -68,12 +65,6 @@ behind : (xs ys : List Program) (i j : ℕ) → j ≡ length xs + i → get_or (
 behind [] ys i j e = let same : j ≡ i = omega (arith, e) in ap (λ k. get_or ys k Id) same
 behind (x ∷ xs) ys i zero e = absurd (omega (arith, e))
 behind (x ∷ xs) ys i (suc j) e = behind xs ys i j (omega (arith, e))
-
--- the program that was chosen for a place is that of the number there
-chosen_at : (es : List Program) (ks : List ℕ) (i : ℕ) → i < length ks → get_or (chosen es ks) i Id ≡ get_or es (get_or ks i 0) Id
-chosen_at es [] i h = absurd (omega (arith, h))
-chosen_at es (k ∷ ks) zero h = refl
-chosen_at es (k ∷ ks) (suc i) h = chosen_at es ks i (omega (arith, h))
 
 -- ---- what a node's program does
 
@@ -117,7 +108,7 @@ module _ (es : List Program) (p : Pruned) where
       rest other false e =
           let not_last = eqb-false i (n + 1) e in
           let low : i < n = omega (arith, h, other, not_last) in
-          ap (λ x. run x t) (ahead (chosen es p.kept) both i (omega (arith, low, size)) ∙ chosen_at es p.kept i low) ∙ sym (only_then es (run (get_or es (get_or p.kept i 0) Id) t))
+          ap (λ x. run x t) (ahead (chosen es p.kept) both i (omega (arith, low, size)) ∙ program_at es p.kept i low) ∙ sym (only_then es (run (get_or es (get_or p.kept i 0) Id) t))
 
       first_case : (b : Bool) → (i == n) ≡ b → run (get_or (contracted_programs es p) i Id) t ≡ outcome es (cond b p.first (cond (i == n + 1) p.last (get_or p.kept i 0 ∷ []))) t
       first_case true e =
@@ -157,21 +148,16 @@ expanded_between : (p : Pruned) (o : List ℕ) → AllByRecursion (λ i. i < len
 expanded_between p [] all = refl
 expanded_between p (i ∷ o) all = ap₂ (λ xs ys. xs ++ ys) (member_between p i all.0) (expanded_between p o all.1)
 
--- nothing behind a list leaves it as it is
-append-none : (xs : List ℕ) → xs ++ [] ≡ xs
-append-none [] = refl
-append-none (x ∷ xs) = ap (λ r. x ∷ r) (append-none xs)
-
 -- with the two others at its ends it stands for its completion
 expanded_wrapped : (p : Pruned) (before : ℕ → ℕ → Type 0) (o : List ℕ) → AllByRecursion (λ i. i < length p.kept) o → expanded p (wrapped (length p.kept) before o) ≡ completion p o
 expanded_wrapped p before o all =
     ap₂ (λ xs ys. xs ++ ys) (member_first p) (expanded-append p o ((length p.kept + 1) ∷ [])
-    ∙ ap₂ (λ xs ys. xs ++ ys) (expanded_between p o all) (append-none (members p (length p.kept + 1)) ∙ member_last p))
+    ∙ ap₂ (λ xs ys. xs ++ ys) (expanded_between p o all) (append-nil (members p (length p.kept + 1)) ∙ member_last p))
 
 -- one node more
 pub one_member_more : (p : Pruned) (order : List ℕ) (i : ℕ) → i < length order → expanded p (take i order) ++ members p (get_or order i 0) ≡ expanded p (take (suc i) order)
 one_member_more p [] i h = absurd (omega (arith, h))
-one_member_more p (x ∷ order) zero h = sym (append-none (members p x))
+one_member_more p (x ∷ order) zero h = sym (append-nil (members p x))
 one_member_more p (x ∷ order) (suc i) h =
     append_assoc (members p x) (expanded p (take i order)) (members p (get_or order i 0)) ∙ ap (λ r. members p x ++ r) (one_member_more p order i (omega (arith, h)))
 

@@ -3,7 +3,7 @@ use Rattle.std.specs.Prelude.{◌≡◌, List, [], ◌∷◌, ◌++◌, ℕ, ◌
 use Rattle.std.specs.List.{list_any}
 use Rattle.command_line.specs.declared.table.Role.{Role}
 use Rattle.command_line.specs.declared.table.Role.TheVariants as role
-use Rattle.command_line.specs.Table.{given as named}
+use Rattle.command_line.specs.Table.{load_of as named}
 use Rattle.rh_base.specs.declared.fault.Refusal.{Refusal}
 use Rattle.rh_base.specs.Refused.{IsRefusal}
 use Rattle.fs_semantics.specs.FileTree.{Path, Tree, is_among}

@@ -2,8 +2,4 @@
 #![tactic(auto)]
 
 #[cfg(test)]
-mod answers;
-#[cfg(test)]
-mod found;
-#[cfg(test)]
-mod listings;
+mod tests;

@@ -1,7 +1,7 @@
 //! Which attribute a resource is refused for.
 
 ghost use Rattle.std.specs.Prelude.{◌≡◌, ◌&&◌, [], option_map};
-ghost use Rattle.model_semantics.specs.Attributes.{is_address, is_source, are_filled, filling_fits, file_fits, user_fits, kind_fits, is_ignored, value_fits, pair_fits, misfit_behind, wanted, missing, attributes_fit};
+ghost use Rattle.model_semantics.specs.Attributes.{is_address, is_source, are_filled, filling_fits, file_fits, user_fits, kind_fits, is_ignored, value_fits, pair_fits, misfit_behind, required_attribute, missing, attributes_fit};
 ghost use Rattle.model_semantics.specs.Names.{Meets, RefusesFor};
 
 use crate::accepted::{accepted, fits, is_one_of};
@@ -141,7 +141,7 @@ fn misfit(k: Kind, e: Ensure, attrs: &[(Text, Value)]) -> Option<&Text>
 
 /// An attribute that has to be given.
 fn wanted(k: Kind, e: Ensure) -> Option<&'static str>
-    ensures { option_map (λ t. t.now) result ≡ wanted k e }
+    ensures { option_map (λ t. t.now) result ≡ required_attribute k e }
 {
     match (k, e) {
         (Kind::File, Ensure::Link) => Some("target"),
@@ -154,7 +154,7 @@ fn wanted(k: Kind, e: Ensure) -> Option<&'static str>
 
 /// The attribute that isn't given, if there is one.
 fn missing(k: Kind, e: Ensure, attrs: &Pairs) -> Option<&'static str>
-    ensures { option_map (λ t. t.now) result ≡ missing (wanted k e) attrs.now }
+    ensures { option_map (λ t. t.now) result ≡ missing (required_attribute k e) attrs.now }
 {
     let name = wanted(k, e)?;
     match attrs.find(name) {

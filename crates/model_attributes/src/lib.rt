@@ -7,6 +7,7 @@ mod kinds;
 mod states;
 mod values;
 
+pub use accepted::is_one_of;
 pub use fitting::attributes_fit;
 pub use kinds::kind_of;
 pub use states::states_of;

@@ -5,7 +5,7 @@ ghost use Rattle.fs_lang.specs.Meaning.{program_of};
 ghost use Rattle.model_semantics.specs.Rows.{file_row};
 ghost use Rattle.model_semantics.specs.Names.{Meets, is_reserved, unless_reserved};
 ghost use Rattle.model_semantics.specs.declared.states.FileState.TheVariants as file;
-ghost use Rattle.model_semantics.specs.Models.{model, source_state, filled, file_state, copies_reserved, file_model};
+ghost use Rattle.model_semantics.specs.Models.{model, source_state, state_of_file, file_state, copies_reserved, file_model};
 ghost use Rattle.model_names.specs.Seen.{seen};
 
 use catalog_semantics::Resource;
@@ -39,7 +39,7 @@ fn source_state(alloc: Global, text: &str) -> Result<FileState, ModelFault>
 
 /// The state by `content` or `source`, or else another.
 fn filled(alloc: Global, attrs: &Pairs, other: FileState) -> Result<FileState, ModelFault>
-    ensures { Meets (λ s. s) (filled attrs.now other) result }
+    ensures { Meets (λ s. s) (state_of_file attrs.now other) result }
 {
     if let Some(content) = text_at(attrs, "content") {
         return Ok(FileState::Content(content.copy(alloc)?));

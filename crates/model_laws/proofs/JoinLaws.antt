@@ -5,6 +5,7 @@ use Rattle.fs_semantics.specs.Entries.{IsFileAt}
 use Rattle.fs_semantics.specs.Programs.{Program, Outcome, Id, Creat, If, IsFile, and_then, run, run_all}
 use Rattle.model_semantics.specs.Words.{steps, sequence, dirs, mark}
 use Rattle.model_laws.proofs.LeftLaws.{Laws, Chosen}
+use Rattle.fs_semantics.proofs.ConstructLaws.{split_then}
 
 -- nothing behind an outcome leaves it
 then_nothing : (r : Outcome) → r ≡ and_then r (λ t. Some t)
@@ -27,11 +28,6 @@ pub runs_both : (es fs : List Program) (t : Tree) → run_all (steps (es ++ fs))
 runs_both [] fs t = refl
 runs_both (e ∷ es) fs t = ap (and_then (run e t)) (λ i u. runs_both es fs u i) ∙ then_both (run e t) (run_all (steps es)) (run_all (steps fs))
 
--- two steps that end in a tree end in one each
-parts : (r : Outcome) (f : Tree → Outcome) (v : Tree) → and_then r f ≡ Some v → (u : Tree) × (r ≡ Some u) × (f u ≡ Some v)
-parts None f v h = cc
-parts (Some u) f v h = (u, refl, h)
-
 -- one step alone runs as its program
 last_of : (e : Program) (u v : Tree) → run_all (steps (e ∷ [])) u ≡ Some v → run e u ≡ Some v
 last_of e u v h = then_nothing (run e u) ∙ h
@@ -40,7 +36,7 @@ last_of e u v h = then_nothing (run e u) ∙ h
 pub mark_leaves : Laws → (m : Path) (t v : Tree) → run (sequence (mark m)) t ≡ Some v → IsFileAt v m
 mark_leaves laws m t v h =
     let last = If (IsFile m) Id (Creat m []) in
-    let both = parts (run_all (steps (dirs m)) t) (run_all (steps (last ∷ []))) v (sym (runs_both (dirs m) (last ∷ []) t) ∙ (sym (runs_steps (mark m) t) ∙ h)) in
+    let both = split_then (run_all (steps (dirs m)) t) (run_all (steps (last ∷ []))) v (sym (runs_both (dirs m) (last ∷ []) t) ∙ (sym (runs_steps (mark m) t) ∙ h)) in
     at both.0 ((laws.choice (IsFile m) Id (Creat m []) both.0 v).0 (last_of last both.0 v both.2))
   where
     at : (u : Tree) → Chosen (IsFile m) Id (Creat m []) u v → IsFileAt v m

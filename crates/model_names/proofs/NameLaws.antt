@@ -3,7 +3,7 @@ use Rattle.std.proofs.Common.{◌≡◌, ◌≢◌, ℕ, ◌==◌, ◌&&◌, ◌
 use Rattle.std.specs.Prelude.{Ok, Err}
 use Rattle.std.specs.List.{list_any, AllByRecursion}
 use Rattle.std.proofs.Math.Dec.{eqb-suc-zero}
-use Rattle.std.proofs.lemmas.Bool.{le-leb, ne_eqb}
+use Rattle.std.proofs.lemmas.Bool.{le-leb, ne_eqb, and_parts, not-true}
 use Rattle.rh_base.specs.declared.limits.TheConstants.{NAME_BYTES}
 use Rattle.fs_semantics.specs.FileTree.{Path}
 use Rattle.fs_lang.specs.PathText.{IsPathText}
@@ -36,26 +36,16 @@ name_test [] h = absurd (h.nonempty refl)
 name_test (b ∷ name) h =
     ap₂ (λ x y. not x && y) (eqb-suc-zero (length name)) (ap₂ (λ x y. x && not y) (le-leb (length (b ∷ name)) NAME_BYTES h.bytes) (zero_nowhere (b ∷ name) h.no_zero))
 
--- of a conjunction that is true both sides are true
-both : (a b : Bool) → (a && b) ≡ true → (a ≡ true) × (b ≡ true)
-both true b h = (refl, h)
-both false b h = absurd (true≢false (sym h))
-
--- where the opposite of a truth value is true it is false
-not_true : (a : Bool) → not a ≡ true → a ≡ false
-not_true true h = absurd (true≢false (sym h))
-not_true false h = refl
-
 -- and what is told to be a name is one
 is_a_name : (name : List ℕ) → is_name name ≡ true → IsName name
 is_a_name [] h = absurd (true≢false (sym h))
 is_a_name (b ∷ name) h =
-    let two = both (not (length (b ∷ name) == 0)) (nat_le (length (b ∷ name)) NAME_BYTES && not (list_any (λ c. c == 0) (b ∷ name))) h in
-    let rest = both (nat_le (length (b ∷ name)) NAME_BYTES) (not (list_any (λ c. c == 0) (b ∷ name))) two.1 in
+    let two = and_parts (not (length (b ∷ name) == 0)) (nat_le (length (b ∷ name)) NAME_BYTES && not (list_any (λ c. c == 0) (b ∷ name))) h in
+    let rest = and_parts (nat_le (length (b ∷ name)) NAME_BYTES) (not (list_any (λ c. c == 0) (b ∷ name))) two.1 in
     record {
       nonempty = λ e. cc;
       bytes = leb-true (length (b ∷ name)) NAME_BYTES rest.0;
-      no_zero = no_zero (b ∷ name) (not_true (list_any (λ c. c == 0) (b ∷ name)) rest.1);
+      no_zero = no_zero (b ∷ name) (not-true (list_any (λ c. c == 0) (b ∷ name)) rest.1);
     }
 
 -- a name has its segment

@@ -1,7 +1,7 @@
 //! Names and paths of resources, and the marks that stand for names.
 
 ghost use Rattle.std.specs.Prelude.{◌≡◌, ◌++◌, ◌∷◌, [], IfOk};
-ghost use Rattle.model_semantics.specs.Words.{marked};
+ghost use Rattle.model_semantics.specs.Words.{mark_path};
 ghost use Rattle.model_semantics.specs.Names.{Meets, text_or, name_of, named, mark_named, mark_of_user, spelled, is_reserved, unless_reserved, mark_needed};
 
 use catalog_semantics::Resource;
@@ -61,7 +61,7 @@ pub fn top(alloc: Global, segment: &str) -> Result<Path, NoMemory>
 
 /// The mark of a segment.
 fn marked(alloc: Global, word: &str, s: &str) -> Result<Path, NoMemory>
-    ensures { IfOk result (λ p. p ≡ marked word.now (s.now ∷ [])) }
+    ensures { IfOk result (λ p. p ≡ mark_path word.now (s.now ∷ [])) }
 {
     let marks = top(alloc, ".rehearsal")?;
     let kind = below(alloc, &marks, word)?;

@@ -287,12 +287,12 @@ misfit_behind k e before [] = None
 misfit_behind k e before (p ∷ pairs) = if pair_fits k e before p then misfit_behind k e (before ++ p ∷ []) pairs else Some p.0
 
 -- an attribute that has to be given
-abbrev pub wanted : Kind → Ensure → Option (List ℕ)
-wanted kind.File ensure.Link = Some (codes "target")
-wanted kind.Cron ensure.Absent = None
-wanted kind.Cron _ = Some (codes "command")
-wanted kind.Key _ = Some (codes "user")
-wanted _ _ = None
+abbrev pub required_attribute : Kind → Ensure → Option (List ℕ)
+required_attribute kind.File ensure.Link = Some (codes "target")
+required_attribute kind.Cron ensure.Absent = None
+required_attribute kind.Cron _ = Some (codes "command")
+required_attribute kind.Key _ = Some (codes "user")
+required_attribute _ _ = None
 
 -- the name, if an attribute of it has to be given and isn't
 abbrev pub missing : Option (List ℕ) → List Pair → Option (List ℕ)
@@ -301,7 +301,7 @@ missing (Some name) attrs = if is_some (value_at name attrs) then None else Some
 
 -- the attribute for which the resource is refused
 abbrev pub refused_attribute : Kind → Ensure → List Pair → Option (List ℕ)
-refused_attribute k e attrs = option_or (misfit_behind k e [] attrs) (missing (wanted k e) attrs)
+refused_attribute k e attrs = option_or (misfit_behind k e [] attrs) (missing (required_attribute k e) attrs)
 
 -- fine, if no attribute is refused
 abbrev pub unless_refused : Option (List ℕ) → Result (Unit {0}) Cause

@@ -49,17 +49,17 @@ filled_state None (Some text) other = source_state text
 filled_state None None other = Ok other
 
 -- the same, by the attributes of a file
-abbrev pub filled : List Pair → FileState → Result FileState Cause
-filled attrs other = filled_state (text_at (codes "content") attrs) (text_at (codes "source") attrs) other
+abbrev pub state_of_file : List Pair → FileState → Result FileState Cause
+state_of_file attrs other = filled_state (text_at (codes "content") attrs) (text_at (codes "source") attrs) other
 
 -- what a file is to be, by its `ensure` and its other attributes
 abbrev pub file_state : Ensure → List Pair → Result FileState Cause
 file_state ensure.Absent attrs = Ok file.Absent
 file_state ensure.Directory attrs = Ok file.Folder
 file_state ensure.Link attrs = Ok (file.Link (text_or (codes "target") [] attrs))
-file_state ensure.Present attrs = filled attrs file.Present
-file_state ensure.File attrs = filled attrs file.File
-file_state _ attrs = filled attrs file.Unsaid
+file_state ensure.Present attrs = state_of_file attrs file.Present
+file_state ensure.File attrs = state_of_file attrs file.File
+file_state _ attrs = state_of_file attrs file.Unsaid
 
 -- the state is a copy of what is reserved
 abbrev pub copies_reserved : FileState → Bool

@@ -15,7 +15,7 @@ use Rattle.model_semantics.specs.declared.kinds.Cause.TheVariants as cause
 use Rattle.model_semantics.specs.declared.kinds.ModelFault.{ModelFault}
 use Rattle.model_semantics.specs.declared.kinds.ModelFault.TheVariants as fault
 use Rattle.model_semantics.specs.declared.states.Units.{Units}
-use Rattle.model_semantics.specs.Words.{marked}
+use Rattle.model_semantics.specs.Words.{mark_path}
 use Rattle.model_semantics.specs.Attributes.{is_digit, truth_of}
 
 -- What follows is made of a result; a cause ends it.
@@ -62,11 +62,11 @@ named name = if is_name name then Ok (segment_of name) else Err cause.Name
 
 -- the mark of a name
 abbrev pub mark_named : List ℕ → List ℕ → Result Path Cause
-mark_named word name = named name >>= (λ s. Ok (marked word (s ∷ [])))
+mark_named word name = named name >>= (λ s. Ok (mark_path word (s ∷ [])))
 
 -- the mark of a name of a user
 abbrev pub mark_of_user : List ℕ → List ℕ → List ℕ → Result Path Cause
-mark_of_user word user name = named user >>= (λ u. named name >>= (λ s. Ok (marked word (u ∷ s ∷ []))))
+mark_of_user word user name = named user >>= (λ u. named name >>= (λ s. Ok (mark_path word (u ∷ s ∷ []))))
 
 -- ---- paths
 

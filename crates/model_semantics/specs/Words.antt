@@ -79,5 +79,5 @@ deepest_first ps = from_depth (deepest ps) ps
 -- ---- the marks
 
 -- the mark `/.rehearsal/WORD/NAME`, with each name as a segment
-abbrev pub marked : List ℕ → List (List ℕ) → Path
-marked word segments = codes ".rehearsal" ∷ word ∷ segments
+abbrev pub mark_path : List ℕ → List (List ℕ) → Path
+mark_path word segments = codes ".rehearsal" ∷ word ∷ segments

@@ -14,7 +14,7 @@ one_more [] e = refl
 one_more (x ∷ es) e = ap (λ l. program_of x ∷ l) (one_more es e)
 
 -- the steps of a list are its programs as steps
-steps_are : (es : List Program) → programs_in es ≡ steps (map program_of es)
+pub steps_are : (es : List Program) → programs_in es ≡ steps (map program_of es)
 steps_are [] = refl
 steps_are (e ∷ es) = ap (language.next (program_of e)) (steps_are es)
 

@@ -38,7 +38,7 @@ record Adds (blocks : List Node) (s t : Site) : Type 0 where
   name : t.node_name ≡ s.node_name
 
 -- where two steps give something, the first did and the second went on from it
-bound : {A B : Type 0} (r : Result A Refusal) (f : A → Result B Refusal) (b : B) → (r >>= f) ≡ Ok b → (a : A) × (r ≡ Ok a) × (f a ≡ Ok b)
+pub bound : {A B : Type 0} (r : Result A Refusal) (f : A → Result B Refusal) (b : B) → (r >>= f) ≡ Ok b → (a : A) × (r ≡ Ok a) × (f a ≡ Ok b)
 bound (Ok a) f b h = (a, refl, h)
 bound (Err e) f b h = cc
 

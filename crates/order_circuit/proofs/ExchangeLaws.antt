@@ -2,15 +2,11 @@
 use Rattle.std.proofs.Common.{◌≡◌, ℕ, suc, ◌+◌, ◌-◌, ◌<◌, ◌≤◌, ◌==◌, true, false, cond, List, [], ◌∷◌, refl, sym, ap, ◌∙◌, arith, eqb-true, nat_lt, ltb-true}
 use Rattle.std.proofs.lemmas.Bool.{eqb-false, ltb-false, lt-ltb, le-ltb}
 use Rattle.order_places.specs.Places.{exchanged}
+use Rattle.order_places.proofs.Exchanging.{skip}
 
 -- what is left of the exchange at place j from place k on
 abbrev pub exchanged_from : ℕ → ℕ → List ℕ → List ℕ
 exchanged_from k j xs = cond (nat_lt j k) xs (exchanged (j - k) xs)
-
--- an exchange further behind leaves the first node
-skip : (j a : ℕ) (order : List ℕ) → exchanged (suc j) (a ∷ order) ≡ a ∷ exchanged j order
-skip j a [] = refl
-skip j a (b ∷ order) = refl
 
 -- one place more: the held one or the next comes, the other is held
 pub exchange_step : (k j held next : ℕ) (rest : List ℕ) → exchanged_from k j (held ∷ next ∷ rest) ≡ cond (k == j) next held ∷ exchanged_from (k + 1) j (cond (k == j) held next ∷ rest)

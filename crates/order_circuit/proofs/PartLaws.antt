@@ -5,16 +5,10 @@ use Rattle.std.specs.Prelude.{slice_index_or}
 use Rattle.fs_semantics.specs.FileTree.{Tree}
 use Rattle.fs_semantics.specs.Programs.{Program as Steps, Id, Outcome, and_then, run}
 use Rattle.fs_semantics.specs.Orders.{outcome}
-use Rattle.std.specs.Prelude.{Result, Ok, Err, IfOk}
 use Rattle.bool_circuit.specs.declared.gate.Wire.{Wire}
 use Rattle.bool_circuit.specs.declared.gate.Gate.{Gate}
 use Rattle.fs_interpreter.specs.Meanings.{Valuation}
 use Rattle.order_circuit.specs.Codes.{node, nodes, part_of, kept_from}
-
--- what follows from a property of an Ok result holds of it
-pub if_ok : {X E : Type 0} (P Q : X → Type 0) (r : Result X E) → ((x : X) → P x → Q x) → IfOk r P → IfOk r Q
-if_ok P Q (Ok x) f h = f x h
-if_ok P Q (Err e) f h = tt
 
 -- ---- the node at a place
 

@@ -1,7 +1,7 @@
 -- Runs of the programs that codes tell.
 use Rattle.std.proofs.Common.{◌≡◌, ℕ, zero, suc, ◌+◌, ◌<◌, ◌≤◌, ◌==◌, true, false, cond, List, [], ◌∷◌, ◌++◌, drop, map, length, get_or, Some, None, refl, sym, ap, subst, ◌∙◌, arith, eqb-true, nat_lt, ltb-true}
 use Rattle.std.proofs.lemmas.Bool.{eqb-false, ltb-false, lt-ltb, le-ltb}
-use Rattle.std.specs.Prelude.{slice_index_or, Result, Ok, Err, IfOk}
+use Rattle.std.specs.Prelude.{slice_index_or}
 use Rattle.bool_circuit.specs.declared.gate.Wire.{Wire}
 use Rattle.bool_circuit.specs.declared.gate.Gate.{Gate}
 use Rattle.fs_semantics.specs.FileTree.{Tree}
@@ -129,8 +129,3 @@ run_end table programs n o s h = elim (nat_lt n (length programs)) as (λ b. nat
 -- no program is done yet
 pub run_start : (table : Listed) (es : List Steps) (n : ℕ) (o : Outcome) (s : State) → StandsFor table s o → StandsFor table s (cond (nat_lt n 0) (and_then o (run (slice_index_or es n Id))) o)
 run_start table es n o s h = subst (λ b. StandsFor table s (cond b (and_then o (run (slice_index_or es n Id))) o)) (sym (le-ltb n 0 (omega arith))) h
-
--- what follows from a property of an Ok result holds of it
-pub if_ok : {X E : Type 0} (P Q : X → Type 0) (r : Result X E) → ((x : X) → P x → Q x) → IfOk r P → IfOk r Q
-if_ok P Q (Ok x) f h = f x h
-if_ok P Q (Err e) f h = tt

@@ -1,6 +1,6 @@
 -- Two programs that end apart behind a fork.
 use Rattle.std.proofs.Common.{◌≡◌, ◌≢◌, ◌⊎◌, inl, inr, ℕ, zero, suc, ◌+◌, ◌-◌, ◌<◌, ◌≤◌, ◌==◌, Bool, true, false, cond, List, [], ◌∷◌, ◌++◌, length, take, drop, Some, None, refl, sym, ap, ◌∙◌, arith, nat_lt, ltb-true}
-use Rattle.std.proofs.lemmas.Bool.{eqb-false, ltb-false}
+use Rattle.std.proofs.lemmas.Bool.{ltb-false}
 use Rattle.std.specs.Prelude.{◌↔◌, ◌&&◌, ◌||◌, slice_index_or}
 use Rattle.fs_semantics.specs.FileTree.{Tree}
 use Rattle.fs_semantics.specs.Programs.{Program, Id, Outcome, and_then, run}
@@ -12,6 +12,7 @@ use Rattle.order_places.specs.Places.{around, exchanged}
 use Rattle.order_circuit.specs.Codes.{node, nodes, AreRows}
 use Rattle.order_circuit.proofs.RunLaws.{after}
 use Rattle.order_encode.specs.Goals.{are_these, EndApartThen, EndApartAt}
+use Rattle.fs_interpreter.proofs.HasLaws.{same_number}
 
 -- a conjunction is true exactly where its first side is and what its second side says holds
 pub both_is : {P : Type 0} (a b : Bool) → (b ≡ true) ↔ P → ((a && b) ≡ true) ↔ ((a ≡ true) × P)
@@ -37,13 +38,9 @@ these_turned i k x y h = turned ((i == x) && (k == y)) ((k == x) && (i == y)) h
 pub apart_turned : (es : List Program) (o : Outcome) (i k : ℕ) → EndApartAt es o i k → EndApartAt es o k i
 apart_turned es o i k h = λ e. h (sym e)
 
--- a number is itself
-equal : (i : ℕ) → (i == i) ≡ true
-equal i = elim (i == i) as (λ b. (i == i) ≡ b → b ≡ true) [ true ↦ λ k. refl | false ↦ λ k. absurd (eqb-false i i k refl) ] refl
-
 -- two nodes are these two
 pub themselves : (x y : ℕ) → are_these x y x y ≡ true
-themselves x y = λ t. (equal x t && equal y t) || ((y == x) && (x == y))
+themselves x y = λ t. (same_number x t && same_number y t) || ((y == x) && (x == y))
 
 -- ---- runs, one part after the other
 

@@ -1,6 +1,6 @@
 -- What wires that are asked for tell of the tree for which the cells stand.
 use Rattle.std.proofs.Common.{◌≡◌, ◌≢◌, ℕ, ◌-◌, ◌<◌, Bool, true, false, List, Option, Some, None, IsSome, nat_lt, refl, sym, ap, subst, ◌∙◌, ltb-true}
-use Rattle.std.proofs.lemmas.Bool.{lt-ltb}
+use Rattle.std.proofs.lemmas.Bool.{lt-ltb, and_parts, and_from}
 use Rattle.std.specs.Prelude.{◌↔◌, ◌&&◌, not, Result, Ok, Err, IfOk}
 use Rattle.bool_circuit.specs.declared.gate.Wire.{Wire}
 use Rattle.bool_circuit.specs.declared.gate.Gate.{Gate}
@@ -24,16 +24,6 @@ use Rattle.order_encode.specs.Goals.{TellsTree, AreAllowed, EndApart}
 false_not_true : {P : Type 0} → false ≡ true → P
 false_not_true e = cc
 
--- of a conjunction that is true both sides are true
-pub and_true : (a b : Bool) → (a && b) ≡ true → (a ≡ true) × (b ≡ true)
-and_true true true e = (refl, refl)
-and_true true false e = false_not_true e
-and_true false b e = false_not_true e
-
--- a conjunction of two that are true is true
-pub true_and : (a b : Bool) → a ≡ true → b ≡ true → (a && b) ≡ true
-true_and a b e h = λ i. e i && h i
-
 -- what follows from two properties of an Ok result holds of it
 pub if_ok_both : {X E : Type 0} (P Q R : X → Type 0) (r : Result X E) → ((x : X) → P x → Q x → R x) → IfOk r P → IfOk r Q → IfOk r R
 if_ok_both P Q R (Ok x) f h k = f x h k
@@ -53,10 +43,10 @@ pub allowed_is : (order : Relation) (j last : ℕ) (left right : List ℕ) → l
     → ((((is_in_order (comes order) order.count left && is_in_order (comes order) order.count right) && nat_lt j last)) ≡ true) ↔ AreAllowed order j left right
 allowed_is order j last left right e = (
   (λ h.
-      let parts = and_true (is_in_order (comes order) order.count left && is_in_order (comes order) order.count right) (nat_lt j last) h in
-      let both = and_true (is_in_order (comes order) order.count left) (is_in_order (comes order) order.count right) parts.0 in
+      let parts = and_parts (is_in_order (comes order) order.count left && is_in_order (comes order) order.count right) (nat_lt j last) h in
+      let both = and_parts (is_in_order (comes order) order.count left) (is_in_order (comes order) order.count right) parts.0 in
       record { first = both.0; second = both.1; placed = subst (λ n. j < n) e (ltb-true j last parts.1) }),
-  (λ h. true_and _ _ (true_and _ _ h.first h.second) (lt-ltb j last (subst (λ n. j < n) (sym e) h.placed))),
+  (λ h. and_from _ _ (and_from _ _ h.first h.second) (lt-ltb j last (subst (λ n. j < n) (sym e) h.placed))),
 )
 
 -- the inputs tell a tree over the domain of which it holds, where the cells are well and it holds of what they stand for
@@ -65,10 +55,10 @@ pub tells_is : {B : Type 0} (gates : List Gate) (d : Domain) (cells : Cells B Wi
     → ((wire_value gates v well.0 && e) ≡ true) ↔ TellsTree d gates cells P v
 tells_is gates d cells well P v e trees holds = (
   (λ h.
-      let parts = and_true (wire_value gates v well.0) e h in
+      let parts = and_parts (wire_value gates v well.0) e h in
       let told = (trees.exact v).0 parts.0 in
       record { tree = told.0; over = told.1; stands = told.2; held = (holds told.0 told.2).0 parts.1 }),
-  (λ k. true_and _ _ ((trees.exact v).1 (k.tree, k.over, k.stands)) ((holds k.tree k.stands).1 k.held)),
+  (λ k. and_from _ _ ((trees.exact v).1 (k.tree, k.over, k.stands)) ((holds k.tree k.stands).1 k.held)),
 )
 
 -- the same of a wire that says both
@@ -94,8 +84,8 @@ apart_is gates d cells well programs order j left right v a b trees allowed diff
 
     whole : ((wire_value gates v well.0 && (a && b)) ≡ true) ↔ TellsTree d gates cells (EndApart programs order j left right) v
     whole = tells_is gates d cells well (EndApart programs order j left right) v (a && b) trees (λ t h. (
-      (λ e. let parts = and_true a b e in let fine = allowed.0 parts.0 in record { allowed = fine; differ = (differ t h fine).0 parts.1 }),
-      (λ k. true_and a b (allowed.1 k.allowed) ((differ t h k.allowed).1 k.differ)),
+      (λ e. let parts = and_parts a b e in let fine = allowed.0 parts.0 in record { allowed = fine; differ = (differ t h fine).0 parts.1 }),
+      (λ k. and_from a b (allowed.1 k.allowed) ((differ t h k.allowed).1 k.differ)),
     ))
 
 -- ---- one order
@@ -111,11 +101,11 @@ pub changes_is : (table : Listed) (s : State) (f : Tree → Outcome) (o : Outcom
 changes_is table s f None other h k = ((λ e. false_not_true (sym (ap (λ b. not b && other) h) ∙ e)), (λ w. let none = w.1 in cc))
 changes_is table s f (Some t) other h k = (
   (λ e.
-      let apart = k.0 (and_true (not s.error) other e).1 in
+      let apart = k.0 (and_parts (not s.error) other e).1 in
       (t, refl, λ q. apart (sym q))),
   (λ w.
       let is : t ≡ w.0 = got w.0 w.1 in
-      true_and (not s.error) other (ap not h.no_error) (k.1 (λ q. w.2 (subst (λ x. f x ≡ Some x) is (sym q))))),
+      and_from (not s.error) other (ap not h.no_error) (k.1 (λ q. w.2 (subst (λ x. f x ≡ Some x) is (sym q))))),
 )
   where
     got : (u : Tree) → ◌≡◌ {A = Option Tree} (Some t) (Some u) → t ≡ u

@@ -17,9 +17,10 @@ use Rattle.order_encode.specs.declared.witness.Witness.TheVariants as witness
 use Rattle.order_encode.specs.Witnesses.{IsFirstExtension}
 use Rattle.order_encode.specs.Told.{wanted_told}
 use Rattle.order_encode.specs.Missing.{EndsMissing, IsMissedFrom, HasMissing, ShowsMissing}
-use Rattle.order_encode.proofs.GoalLaws.{and_true, true_and, not_is}
+use Rattle.order_encode.proofs.GoalLaws.{not_is}
 use Rattle.order_encode.proofs.WitnessLaws.{Long, first_same}
 use Rattle.order_encode.proofs.ToldLaws.{FindsPath, FindsNoPath, FindsContent, FindsNoContent, wanted_is}
+use Rattle.std.proofs.lemmas.Bool.{and_parts, and_from}
 
 -- no error is told, and the entry isn't, exactly where the outcome is a tree without it
 module _ (finds_path : FindsPath) (finds_no_path : FindsNoPath) (finds : FindsContent) (finds_not : FindsNoContent) (table : Listed) (is : IsTable table) (s : State) (w : Wanted) where
@@ -27,10 +28,10 @@ module _ (finds_path : FindsPath) (finds_no_path : FindsNoPath) (finds : FindsCo
   pub misses_is : (o : Outcome) (has : Bool) → StandsFor table s o → has ≡ wanted_told table w s.cell → ((not s.error && not has) ≡ true) ↔ ((u : Tree) × (o ≡ Some u) × (HasWanted u w → ⊥))
   misses_is None has h e = ((λ k. let no : false ≡ true = sym (ap (λ b. not b && not has) h) ∙ k in cc), (λ m. let none = m.1 in cc))
   misses_is (Some t) has h e = (
-    (λ k. (t, refl, (not_is has told).0 (and_true (not s.error) (not has) k).1)),
+    (λ k. (t, refl, (not_is has told).0 (and_parts (not s.error) (not has) k).1)),
     (λ m.
         let same : t ≡ m.0 = got m.0 m.1 in
-        true_and (not s.error) (not has) (ap not h.no_error) ((not_is has told).1 (λ q. m.2 (subst (λ x. HasWanted x w) same q)))),
+        and_from (not s.error) (not has) (ap not h.no_error) ((not_is has told).1 (λ q. m.2 (subst (λ x. HasWanted x w) same q)))),
   )
     where
       told : (has ≡ true) ↔ HasWanted t w

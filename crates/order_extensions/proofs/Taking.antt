@@ -1,13 +1,13 @@
 -- Taking the least node that may come next, until none is left.
-use Rattle.std.proofs.Common.{◌≡◌, ◌≢◌, ◌⊎◌, inl, inr, ⊎_elim, ℕ, zero, suc, true, false, cond, ◌==◌, ◌+◌, ◌<◌, ◌≤◌, List, [], ◌∷◌, ◌++◌, refl, sym, ap, ◌∙◌, subst, arith, append_assoc}
+use Rattle.std.proofs.Common.{◌≡◌, ◌≢◌, ◌⊎◌, inl, inr, ⊎_elim, ℕ, zero, suc, true, false, cond, ◌==◌, ◌+◌, ◌<◌, ◌≤◌, List, [], ◌∷◌, ◌++◌, refl, sym, ap, ◌∙◌, subst, arith}
 use Rattle.std.specs.Prelude.{if◌then◌else◌}
 use Rattle.std.proofs.lemmas.Bool.{cases_lt, cases_eq}
-use Rattle.std.proofs.lemmas.List.{append-nil}
 use Rattle.fs_semantics.specs.Orders.{times, NoneAhead}
 use Rattle.fs_semantics.proofs.Counts.{times_append, times_itself, times_other, all_from, none_ahead_push}
 use Rattle.orders.specs.Relation.{Relation, comes, Comes, IsStrictOrder}
 use Rattle.orders.specs.Extensions.{IsReady, IsLeastReady, TakesLeast}
 use Rattle.order_extensions.specs.FirstExtensions.{HasFirstExtension}
+use Rattle.orders.proofs.Taking.{takes_push}
 
 -- how many numbers below n don't stand in the list
 abbrev untaken : ℕ → List ℕ → ℕ
@@ -47,12 +47,6 @@ untaken_less (suc n) x list l e =
     let is : ◌≡◌ {A = ℕ} (cond (times n (list ++ x ∷ []) == 0) 1 0) 0 =
     ap (λ t. cond (t == 0) 1 0) (subst (λ v. times v (list ++ x ∷ []) ≡ 1) here (omega (arith, itself_last x list, e))) in
     omega arith) (cases_lt x n)
-
--- an order that takes the least each time still does with the least one more
-takes_push : (n : ℕ) (before : ℕ → ℕ → Type 0) (taken list : List ℕ) (k : ℕ) → TakesLeast n before taken list → IsLeastReady n before (taken ++ list) k → TakesLeast n before taken (list ++ k ∷ [])
-takes_push n before taken [] k h r = (subst (λ (t : List ℕ). IsLeastReady n before t k) (append-nil taken) r, tt)
-takes_push n before taken (x ∷ list) k h r =
-    (h.0, takes_push n before (taken ++ x ∷ []) list k h.1 (subst (λ (t : List ℕ). IsLeastReady n before t k) (sym (append_assoc taken (x ∷ []) list)) r))
 
 -- what is said of all below n and of n is said of all below n and one more
 up_to : (P : ℕ → Type 0) (n : ℕ) → ((k : ℕ) → k < n → P k) → P n → (k : ℕ) → k < suc n → P k

@@ -1,9 +1,9 @@
 -- The exchange of two neighbours at a place.
 use Rattle.std.proofs.Common.{◌≡◌, ℕ, zero, suc, ◌+◌, ◌<◌, ◌≤◌, ◌==◌, Bool, true, false, cond, List, [], ◌∷◌, ◌++◌, length, refl, sym, ap, subst, ◌∙◌, arith}
 use Rattle.std.proofs.lemmas.Bool.{eqb-false}
-use Rattle.std.specs.List.{AllByRecursion}
 use Rattle.fs_semantics.specs.Orders.{Told, NoneAhead, times, IsLinearExtension, IsFree}
 use Rattle.order_places.specs.Places.{exchanged, AreNeighbours}
+use Rattle.fs_semantics.proofs.Counts.{all_back}
 
 -- the parts of an order at a place
 record Parts (j : ℕ) (order : List ℕ) : Type 0 where
@@ -26,11 +26,6 @@ none_ahead : (before : ℕ → ℕ → Type 0) (front back : List ℕ) → NoneA
 none_ahead before [] back h = h
 none_ahead before (i ∷ front) back h = none_ahead before front back h.1
 
--- what holds of all of two lists joined holds of those of the second
-pub all_behind : (P : ℕ → Type 0) (front back : List ℕ) → AllByRecursion P (front ++ back) → AllByRecursion P back
-all_behind P [] back h = h
-all_behind P (i ∷ front) back h = all_behind P front back h.1
-
 -- a number stands in the end of a list no more often than in the list
 behind_less : (k : ℕ) (front back : List ℕ) → times k back ≤ times k (front ++ back)
 behind_less k [] back = omega arith
@@ -47,7 +42,7 @@ twice a back = let one = equal a in let sum : times a (a ∷ a ∷ back) ≡ 1 +
 pub free : (n : ℕ) (before : ℕ → ℕ → Bool) (front back : List ℕ) (a b : ℕ) → IsLinearExtension n (Told before) (front ++ a ∷ b ∷ back) → IsLinearExtension n (Told before) (front ++ b ∷ a ∷ back) → IsFree (Told before) a b
 free n before front back a b one other = record {
   differ = λ same.
-      let low : a < n = (all_behind (λ k. k < n) front (a ∷ b ∷ back) one.below).0 in
+      let low : a < n = (all_back (λ k. k < n) front (a ∷ b ∷ back) one.below).0 in
       let two : 2 ≤ times a (a ∷ b ∷ back) = subst (λ c. 2 ≤ times a (a ∷ c ∷ back)) same (twice a back) in
       let less = behind_less a front (a ∷ b ∷ back) in
       let single = one.once a low in
@@ -73,7 +68,7 @@ neighbours n before order j h one other = let p = parts j order h in record {
 }
 
 -- to exchange further behind leaves the first node
-skip : (j a : ℕ) (order : List ℕ) → exchanged (suc j) (a ∷ order) ≡ a ∷ exchanged j order
+pub skip : (j a : ℕ) (order : List ℕ) → exchanged (suc j) (a ∷ order) ≡ a ∷ exchanged j order
 skip j a [] = refl
 skip j a (b ∷ order) = refl
 

@@ -1,31 +1,17 @@
 -- Each may come next exactly in the allowed orders.
 use Rattle.std.proofs.Common.{◌≡◌, ◌⊎◌, inl, inr, ℕ, zero, suc, ◌+◌, ◌<◌, ◌≤◌, ◌==◌, Bool, true, false, cond, List, [], ◌∷◌, length, refl, sym, ap, subst, ◌∙◌, arith, eqb-true, nat_lt, ltb-true, IsTrue}
-use Rattle.std.proofs.lemmas.Bool.{eqb-false, lt-ltb, ltb-false}
+use Rattle.std.proofs.lemmas.Bool.{eqb-false, lt-ltb, ltb-false, not-true, and_from}
 use Rattle.std.specs.Prelude.{not, ◌&&◌, ◌||◌, ◌↔◌}
 use Rattle.std.specs.List.{AllByRecursion}
 use Rattle.fs_semantics.specs.Orders.{Told, NoneAhead, times, IsLinearExtension}
 use Rattle.order_places.specs.Places.{all_taken, is_ready, with_taken, may_follow, is_in_order, IsStrict}
 use Rattle.order_places.proofs.Counting.{total_is, each_once, long_enough}
+use Rattle.fs_semantics.proofs.Puts.{and_right}
 
 -- of a conjunction that is true the left side is true
 left : (a b : Bool) → (a && b) ≡ true → a ≡ true
 left true b h = refl
 left false b h = h
-
--- of a conjunction that is true the right side is true
-right : (a b : Bool) → (a && b) ≡ true → b ≡ true
-right true b h = h
-right false true h = refl
-right false false h = h
-
--- a conjunction of two that are true is true
-both : (a b : Bool) → a ≡ true → b ≡ true → (a && b) ≡ true
-both a b h k = λ i. h i && k i
-
--- what is negated and true is false
-off : (a : Bool) → not a ≡ true → a ≡ false
-off true h = sym h
-off false h = refl
 
 -- of a disjunction that is false the first side is false
 neither_first : (a b : Bool) → (a || b) ≡ false → a ≡ false
@@ -44,7 +30,7 @@ module _ (n : ℕ) (before : ℕ → ℕ → Bool) where
   taken_at taken i (suc m) a h b e = elim (nat_lt a m) as (λ c. nat_lt a m ≡ c → taken a ≡ true) [
     | true ↦ λ l. taken_at taken i m a (left (all_taken before taken i m) (not (before m i) || taken m) h) (ltb-true a m l) e
     | false ↦ λ l. let past = ltb-false a m l in let here : m ≡ a = omega (arith, b, past) in
-        subst (λ k. taken k ≡ true) here (implied (before m i) (taken m) (right (all_taken before taken i m) (not (before m i) || taken m) h) (subst (λ k. before k i ≡ true) (sym here) e))
+        subst (λ k. taken k ≡ true) here (implied (before m i) (taken m) (and_right (all_taken before taken i m) (not (before m i) || taken m) h) (subst (λ k. before k i ≡ true) (sym here) e))
   ] refl
     where
       implied : (x y : Bool) → (not x || y) ≡ true → x ≡ true → y ≡ true
@@ -54,7 +40,7 @@ module _ (n : ℕ) (before : ℕ → ℕ → Bool) where
   -- and where each of these is, all are
   at_taken : (taken : ℕ → Bool) (i m : ℕ) → ((a : ℕ) → a < m → IsTrue (before a i) → taken a ≡ true) → all_taken before taken i m ≡ true
   at_taken taken i zero h = refl
-  at_taken taken i (suc m) h = both (all_taken before taken i m) (not (before m i) || taken m) (at_taken taken i m (λ a b. h a (omega (arith, b)))) (implied (before m i) (taken m) (h m (omega arith)))
+  at_taken taken i (suc m) h = and_from (all_taken before taken i m) (not (before m i) || taken m) (at_taken taken i m (λ a b. h a (omega (arith, b)))) (implied (before m i) (taken m) (h m (omega arith)))
     where
       implied : (x y : Bool) → (x ≡ true → y ≡ true) → (not x || y) ≡ true
       implied true y f = f refl
@@ -93,14 +79,14 @@ module _ (n : ℕ) (before : ℕ → ℕ → Bool) where
   follows taken [] h = record { below = tt; fresh = tt; once = λ k. omega arith; kept = tt }
   follows taken (i ∷ order) h =
       let ready = left (is_ready before n taken i) (may_follow before n (with_taken taken i) order) h in
-      let rest = follows (with_taken taken i) order (right (is_ready before n taken i) (may_follow before n (with_taken taken i) order) h) in
+      let rest = follows (with_taken taken i) order (and_right (is_ready before n taken i) (may_follow before n (with_taken taken i) order) h) in
       let low = ltb-true i n (left (nat_lt i n) (not (taken i) && all_taken before taken i n) ready) in
-      let more = right (nat_lt i n) (not (taken i) && all_taken before taken i n) ready in
-      let held = right (not (taken i)) (all_taken before taken i n) more in
+      let more = and_right (nat_lt i n) (not (taken i) && all_taken before taken i n) ready in
+      let held = and_right (not (taken i)) (all_taken before taken i n) more in
       let fresh = untaken taken i order rest.fresh in
       record {
         below = (low, rest.below);
-        fresh = (off (taken i) (left (not (taken i)) (all_taken before taken i n) more), fresh);
+        fresh = (not-true (taken i) (left (not (taken i)) (all_taken before taken i n) more), fresh);
         once = λ k. elim (i == k) as (λ b. (i == k) ≡ b → cond b 1 0 + times k order ≤ 1) [
           | true ↦ λ e. let none = none_is taken i order rest.fresh in let same = ap (λ j. times j order) (eqb-true i k e) in omega (arith, none, same)
           | false ↦ λ e. let most = rest.once k in omega (arith, most)
@@ -153,9 +139,9 @@ module _ (n : ℕ) (before : ℕ → ℕ → Bool) where
   covers_follow never taken (i ∷ order) c =
       let mine : times i (i ∷ order) ≡ 1 + times i order = ap (λ b. cond b 1 0 + times i order) (equal_is i) in
       let gone : times i order ≤ 0 = let most = c.once i c.below.0 in omega (arith, most, mine) in
-      both (is_ready before n taken i) (may_follow before n (with_taken taken i) order)
-      (both (nat_lt i n) (not (taken i) && all_taken before taken i n) (lt-ltb i n c.below.0)
-      (both (not (taken i)) (all_taken before taken i n) (ap not c.fresh.0) (at_taken taken i n (λ a b e. elim (c.all a b) [
+      and_from (is_ready before n taken i) (may_follow before n (with_taken taken i) order)
+      (and_from (nat_lt i n) (not (taken i) && all_taken before taken i n) (lt-ltb i n c.below.0)
+      (and_from (not (taken i)) (all_taken before taken i n) (ap not c.fresh.0) (at_taken taken i n (λ a b e. elim (c.all a b) [
         | inl there ↦ there
         | inr stands ↦ absurd (by_place a e (i == a) refl stands)
       ]))))

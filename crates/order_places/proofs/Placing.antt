@@ -3,12 +3,8 @@ use Rattle.std.proofs.Common.{◌≡◌, ℕ, zero, suc, ◌+◌, ◌-◌, ◌<�
 use Rattle.std.specs.Prelude.{slice_index_or}
 use Rattle.fs_semantics.specs.Orders.{Told, IsLinearExtension, IsFree}
 use Rattle.order_places.specs.Places.{exchanged, around}
-use Rattle.order_places.proofs.Exchanging.{free, all_behind}
-
--- to exchange further behind leaves the first node
-skip : (j a : ℕ) (order : List ℕ) → exchanged (suc j) (a ∷ order) ≡ a ∷ exchanged j order
-skip j a [] = refl
-skip j a (b ∷ order) = refl
+use Rattle.order_places.proofs.Exchanging.{free, skip}
+use Rattle.fs_semantics.proofs.Counts.{all_back}
 
 -- the node behind a place is the one at it in the rest
 next_at : (j a : ℕ) (order : List ℕ) → slice_index_or (a ∷ order) (suc j + 1) 0 ≡ slice_index_or order (j + 1) 0
@@ -50,5 +46,5 @@ bounded n before order j h one two =
     let back = drop j (drop 2 order) in
     let was = subst (IsLinearExtension n (Told before)) (sym (whole j order h)) one in
     let is = subst (IsLinearExtension n (Told before)) (sym (other j order h)) two in
-    let low = all_behind (λ k. k < n) front (a ∷ b ∷ back) was.below in
+    let low = all_back (λ k. k < n) front (a ∷ b ∷ back) was.below in
     (free n before front back a b was is, low.0, low.1.0)

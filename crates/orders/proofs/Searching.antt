@@ -1,5 +1,5 @@
 -- Steps of a search through a graph, depth first.
-use Rattle.std.proofs.Common.{◌≡◌, ℕ, zero, suc, Bool, true, false, not, cond, ◌==◌, ◌+◌, ◌-◌, ◌<◌, ◌≤◌, ◌⊎◌, inl, inr, ⊎_elim, List, [], ◌∷◌, ◌++◌, length, get_or, set, refl, sym, ap, ◌∙◌, subst, arith, eq-eqb, eqb-true}
+use Rattle.std.proofs.Common.{◌≡◌, ℕ, zero, suc, Bool, true, false, not, cond, ◌==◌, ◌+◌, ◌-◌, ◌<◌, ◌≤◌, ◌⊎◌, ⊎_elim, List, [], ◌∷◌, ◌++◌, length, get_or, set, refl, sym, ap, ◌∙◌, subst, arith, eq-eqb, eqb-true}
 use Rattle.std.specs.Prelude.{◌&&◌, ◌||◌, slice_index}
 use Rattle.std.proofs.lemmas.Bool.{cases_lt, cases_eq}
 use Rattle.std.proofs.lemmas.List.{get_or-set_same, get_or-set_other, get_or_default}
@@ -119,22 +119,3 @@ module _ (edges : List (ℕ × ℕ)) where
   linked_push (x ∷ z ∷ xs) node h e =
       let last : suc (suc (length xs)) - 1 ≡ suc (suc (length xs) - 1) = omega arith in
       (h.0, linked_push (z ∷ xs) node h.1 (λ l. subst (λ (v : ℕ). HasEdge edges (slice_index (x ∷ z ∷ xs) v) node) last (e (omega arith))))
-
--- of a disjunction that is true one side is true
-pub or_true : (p q : Bool) → (p || q) ≡ true → (p ≡ true) ⊎ (q ≡ true)
-or_true true q h = inl refl
-or_true false q h = inr h
-
--- of a conjunction that is true both sides are true
-pub and_true : (p q : Bool) → (p && q) ≡ true → (p ≡ true) × (q ≡ true)
-and_true true q h = (refl, h)
-and_true false q h = cc
-
--- a disjunction with a true right side is true
-pub or_right : (p q : Bool) → q ≡ true → (p || q) ≡ true
-or_right true q h = refl
-or_right false q h = h
-
--- a disjunction with a true left side is true
-pub or_left : (p q : Bool) → p ≡ true → (p || q) ≡ true
-or_left p q h = rw h

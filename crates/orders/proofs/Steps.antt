@@ -1,7 +1,7 @@
 -- What each step of a search keeps.
 use Rattle.std.proofs.Common.{◌≡◌, ◌≢◌, ℕ, suc, Bool, true, false, not, cond, ◌==◌, ◌+◌, ◌-◌, ◌*◌, ◌<◌, ◌≤◌, ◌⊎◌, inl, inr, ⊎_elim, List, [], ◌∷◌, ◌++◌, length, get_or, set, take, drop, refl, sym, ap, ◌∙◌, subst, arith, eq-eqb, ne_eqb, eqb-true}
 use Rattle.std.specs.Prelude.{◌&&◌, ◌||◌, slice_index}
-use Rattle.std.proofs.lemmas.Bool.{cases_lt, cases_eq}
+use Rattle.std.proofs.lemmas.Bool.{cases_lt, cases_eq, cases_Bool, and_parts, or_right, or_left, or_cases}
 use Rattle.std.proofs.lemmas.List.{get_or-set_same, get_or-set_other, length-set, length-append, drop_all}
 use Rattle.fs_semantics.specs.Orders.{times}
 use Rattle.orders.specs.Paths.{HasEdge, EndsBelow, Path, edge, and_on}
@@ -13,12 +13,7 @@ use Rattle.orders.proofs.Lists.{times_at, split_at}
 use Rattle.orders.proofs.Waits.{count_false_set, clash}
 use Rattle.orders.proofs.Taking.{within_taken}
 use Rattle.orders.proofs.Tables.{comes_cell, comes_within}
-use Rattle.orders.proofs.Searching.{latest_le, latest_own, latest_none, edge_at, numbered, source_within, target_within, path_within, one_at_most, in_work_both, in_work_one, done_none, unset_none, set_keeps, total_set, linked_front, linked_push, or_true, and_true, or_right, or_left}
-
--- marks as Bool
-told : (t : Bool) → (t ≡ true) ⊎ (t ≡ false)
-told true = inl refl
-told false = inr refl
+use Rattle.orders.proofs.Searching.{latest_le, latest_own, latest_none, edge_at, numbered, source_within, target_within, path_within, one_at_most, in_work_both, in_work_one, done_none, unset_none, set_keeps, total_set, linked_front, linked_push}
 
 module _ (n : ℕ) (edges : List (ℕ × ℕ)) (ends : EndsBelow n edges) (s : State) (h : IsSearch n edges s) where
   -- no node is in work twice
@@ -33,7 +28,7 @@ module _ (n : ℕ) (edges : List (ℕ × ℕ)) (ends : EndsBelow n edges) (s : S
 
     -- a node that wasn't entered isn't done
     not_done : get_or s.done node false ≡ false
-    not_done = ⊎_elim (λ t. absurd (clash fresh (h.done_entered node t))) (λ f. f) (told (get_or s.done node false))
+    not_done = ⊎_elim (λ t. absurd (clash fresh (h.done_entered node t))) (λ f. f) (cases_Bool (get_or s.done node false))
 
     -- after a node was entered those in work are as before, and that one
     entered_counts : (k : ℕ) → times k (s.stack ++ node ∷ []) ≡ cond (get_or (set s.entered node true) k false && not (get_or s.done k false)) 1 0
@@ -248,11 +243,11 @@ module _ (n : ℕ) (edges : List (ℕ × ℕ)) (ends : EndsBelow n edges) (s : S
       sound x y hx hy c =
           ⊎_elim
           (λ new.
-          let parts = and_true (x == top) ((y == node) || cell (width_of n) s.words node y) new in
+          let parts = and_parts (x == top) ((y == node) || cell (width_of n) s.words node y) new in
           subst (λ (v : ℕ). Path edges v y) (sym (eqb-true x top parts.0))
-          (⊎_elim (λ e. subst (λ (v : ℕ). Path edges top v) (sym (eqb-true y node e)) way) (λ e. way_on y (h.sound node y node_within hy e)) (or_true (y == node) (cell (width_of n) s.words node y) parts.1)))
+          (⊎_elim (λ e. subst (λ (v : ℕ). Path edges top v) (sym (eqb-true y node e)) way) (λ e. way_on y (h.sound node y node_within hy e)) (or_cases (y == node) (cell (width_of n) s.words node y) parts.1)))
           (λ old. h.sound x y hx hy old)
-          (or_true ((x == top) && ((y == node) || cell (width_of n) s.words node y)) (cell (width_of n) s.words x y) (sym (put x y hx hy) ∙ c))
+          (or_cases ((x == top) && ((y == node) || cell (width_of n) s.words node y)) (cell (width_of n) s.words x y) (sym (put x y hx hy) ∙ c))
 
       -- an edge that had been followed still is
       followed_still : (k : ℕ) → k < length edges → IsFollowed n edges s k → IsFollowed n edges passed k
@@ -358,7 +353,7 @@ module _ (n : ℕ) (edges : List (ℕ × ℕ)) (ends : EndsBelow n edges) (s : S
       (λ f. let e = in_work_one (get_or s.entered k false) (get_or s.done k false) (all k l) f in
       let g = h.in_work k in
       let i = ap (times k) idle in
-      absurd (omega arith)) (told (get_or s.done k false))
+      absurd (omega arith)) (cases_Bool (get_or s.done k false))
 
   -- and all edges are followed
   all_followed : (k : ℕ) → k < length edges → IsFollowed n edges s k

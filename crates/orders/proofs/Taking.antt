@@ -36,7 +36,7 @@ pub within_taken : (taken : List Bool) (k : ℕ) → get_or taken k false ≡ tr
 within_taken taken k e = ⊎_elim (λ l. l) (λ l. absurd (clash (get_or_past taken k false l) e)) (cases_lt k (length taken))
 
 -- an order that takes the least each time still does with the least one more
-takes_push : (n : ℕ) (before : ℕ → ℕ → Type 0) (taken list : List ℕ) (k : ℕ) → TakesLeast n before taken list → IsLeastReady n before (taken ++ list) k → TakesLeast n before taken (list ++ k ∷ [])
+pub takes_push : (n : ℕ) (before : ℕ → ℕ → Type 0) (taken list : List ℕ) (k : ℕ) → TakesLeast n before taken list → IsLeastReady n before (taken ++ list) k → TakesLeast n before taken (list ++ k ∷ [])
 takes_push n before taken [] k h r = (subst (λ (t : List ℕ). IsLeastReady n before t k) (append-nil taken) r, tt)
 takes_push n before taken (x ∷ list) k h r =
     (h.0, takes_push n before (taken ++ x ∷ []) list k h.1 (subst (λ (t : List ℕ). IsLeastReady n before t k) (sym (append_assoc taken (x ∷ []) list)) r))

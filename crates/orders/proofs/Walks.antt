@@ -13,11 +13,11 @@ use Rattle.fs_semantics.proofs.Exchanges.{exchanged as next_is_allowed}
 
 -- ---- places
 -- the first of an order stands at place 0
-place_here : (k : ℕ) (order : List ℕ) → place k (k ∷ order) ≡ 0
+pub place_here : (k : ℕ) (order : List ℕ) → place k (k ∷ order) ≡ 0
 place_here k order = ap (λ b. cond b 0 (suc (place k order))) (eq-eqb k k refl)
 
 -- any other stands one place further than in the rest
-place_on : (k i : ℕ) (order : List ℕ) → k ≢ i → place k (i ∷ order) ≡ suc (place k order)
+pub place_on : (k i : ℕ) (order : List ℕ) → k ≢ i → place k (i ∷ order) ≡ suc (place k order)
 place_on k i order ne = ap (λ b. cond b 0 (suc (place k order))) (ne_eqb i k (λ e. ne (sym e)))
 
 -- a node of the order stands at a place within it

@@ -13,7 +13,8 @@ use Rattle.finite_domain.specs.Layouts.{all_texts, first_uses, stem, numbered, L
 use Rattle.finite_domain.proofs.Matters.{all_listed}
 use Rattle.finite_domain.proofs.Texts.{text_same, among_left, first_uses_are}
 use Rattle.path_domain.proofs.LaidLaws.{stands}
-use Rattle.path_domain.proofs.DomainLaws.{root_or, append_none}
+use Rattle.path_domain.proofs.DomainLaws.{root_or}
+use Rattle.std.proofs.lemmas.List.{append-nil}
 
 -- the table has what is mentioned
 abbrev Held : Listed → Matter → Type 0
@@ -73,7 +74,7 @@ module _ (es : List Program) (l : Layout) (laid : IsLayout es l) (table : Listed
   spoken_held p h = elim (root_or p) [
     | inl root ↦ inl root
     | inr below ↦
-        let name : IsNamed es p = record { not_root = below; more = []; spoken = subst (SpeakOf es) (sym (append_none p)) h } in
+        let name : IsNamed es p = record { not_root = below; more = []; spoken = subst (SpeakOf es) (sym (append-nil p)) h } in
         let at = stands l.paths p ((laid.paths p).1 (inl name)) in
         inr (at.0, ap (λ ps. slice_get ps at.0) paths ∙ at.1)
   ]

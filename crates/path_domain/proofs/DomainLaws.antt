@@ -1,47 +1,32 @@
 -- What is laid out is the layout of the programs' domain.
-use Rattle.std.proofs.Common.{◌≡◌, ◌≢◌, ◌⊎◌, inl, inr, ℕ, ◌<◌, ◌≤◌, ◌^◌, Bool, true, false, ◌||◌, List, [], ◌∷◌, ◌++◌, map, length, refl, sym, ap, subst, ◌∙◌, arith, append_assoc}
+use Rattle.std.proofs.Common.{◌≡◌, ◌≢◌, ◌⊎◌, inl, inr, ℕ, ◌<◌, ◌≤◌, ◌^◌, true, ◌||◌, List, [], ◌∷◌, ◌++◌, map, length, refl, sym, ap, subst, ◌∙◌, arith, append_assoc}
 use Rattle.std.specs.Prelude.{◌↔◌, IsTrue, slice_index_or}
 use Rattle.std.specs.List.{list_any}
 use Rattle.std.specs.List.Sorted.{IsStrictlySortedBy, IsStrictlyIncreasing}
-use Rattle.std.proofs.lemmas.List.Folds.{list_any-append}
 use Rattle.std.proofs.lemmas.Bool.{or_cases, or_left, or_right, and_parts, and_from}
-use Rattle.fs_semantics.specs.FileTree.{Path, Segment, IsSegment, path_cmp, path_eq, parent, is_among}
+use Rattle.fs_semantics.specs.FileTree.{Path, Segment, path_cmp, path_eq, parent, is_among}
 use Rattle.fs_semantics.specs.Programs.{Program}
 use Rattle.fs_semantics.proofs.Trees.{path_eq_refl, path_eq_same, parent_of_child, parent_and_last}
 use Rattle.finite_domain.specs.Mentions.{Below, AnyMentions}
 use Rattle.finite_domain.specs.Domains.{text_eq, is_text_among, SpeakOf, IsNamed}
-use Rattle.finite_domain.specs.Matters.{all_matters, paths_among, watched_among, fronts, all_fronts, has_segment}
+use Rattle.finite_domain.specs.Matters.{all_matters, paths_among, watched_among, all_fronts, has_segment}
 use Rattle.finite_domain.specs.Layouts.{all_texts, first_uses, other_segment, stem, HaveSegment, HaveStart, IsFirstFailure, IsFreshChild, numbered, Layout, IsLayout}
-use Rattle.finite_domain.proofs.Matters.{paths_told, watched_told, named_told}
-use Rattle.finite_domain.proofs.Laid.{all_letters}
-use Rattle.finite_domain.proofs.Texts.{text_same, text_itself, among_right, first_uses_are}
+use Rattle.finite_domain.proofs.Matters.{paths_told, watched_told, named_told, front_of, among_fronts}
+use Rattle.finite_domain.proofs.Texts.{text_same, first_uses_are}
 use Rattle.path_domain.specs.declared.found.Found.{Found}
-use Rattle.path_domain.specs.Gathered.{Paths, Gathered, told, nothing, gather}
+use Rattle.path_domain.specs.Gathered.{Paths, Gathered, gathered_of, nothing, gather}
 use Rattle.path_domain.specs.Laid.{places_from, Starts, HaveParents}
 use Rattle.path_domain.proofs.UseLaws.{paths_are, watched_are}
 use Rattle.path_domain.proofs.PlaceLaws.{places_rise, at_places}
+use Rattle.std.proofs.lemmas.List.{append-nil}
+use Rattle.std.proofs.Math.Bool.{or-false}
+use Rattle.finite_domain.proofs.Exist.{within}
 
 -- ---- lists with the same members
 
 -- the two lists have the same members
 abbrev SameMembers : List Path → List Path → Type 0
 SameMembers ps qs = (p : Path) → is_among p ps ≡ is_among p qs
-
--- a path among all with those above them is one of them or above one
-front_of : (q : Path) (ps : List Path) → is_among q (all_fronts ps) ≡ true → (p : Path) × IsTrue (is_among p ps) × IsTrue (is_among q (fronts p))
-front_of q [] h = cc
-front_of q (p ∷ ps) h = elim (or_cases _ _ (sym (list_any-append (path_eq q) (fronts p) (all_fronts ps)) ∙ h)) [
-  | inl here ↦ (p, or_left _ _ (path_eq_refl p), here)
-  | inr there ↦ let more = front_of q ps there in (more.0, or_right _ _ more.1, more.2)
-]
-
--- and one of them, or one above it, is among all with those above them
-among_fronts : (q p : Path) (ps : List Path) → is_among p ps ≡ true → is_among q (fronts p) ≡ true → is_among q (all_fronts ps) ≡ true
-among_fronts q p [] h k = cc
-among_fronts q p (r ∷ ps) h k = list_any-append (path_eq q) (fronts r) (all_fronts ps) ∙ elim (or_cases (path_eq p r) (is_among p ps) h) [
-  | inl here ↦ or_left _ _ (ap (λ x. is_among q (fronts x)) (sym (path_eq_same p r here)) ∙ k)
-  | inr there ↦ or_right (is_among q (fronts r)) _ (among_fronts q p ps there k)
-]
 
 -- lists with the same members have the same paths above them
 same_fronts : (ps qs : List Path) (q : Path) → SameMembers ps qs → is_among q (all_fronts ps) ≡ true → is_among q (all_fronts qs) ≡ true
@@ -73,22 +58,7 @@ with_path c p (q ∷ ps) h k = elim (or_cases (path_eq p q) (is_among p ps) h) [
   | inr there ↦ or_right (is_text_among c q) _ (with_path c p ps there k)
 ]
 
--- a segment of a path stands in it
-within : (front : Path) (s : Segment) (back : Path) → is_text_among s (front ++ s ∷ back) ≡ true
-within front s back = among_right s front (s ∷ back) (or_left _ _ (text_itself s s refl))
-
 -- ---- children
-
--- what a fresh child may be called is a segment
-pub other_is_segment : (n : ℕ) → IsSegment (other_segment n)
-other_is_segment n = record {
-  bytes = (omega arith, (omega arith, (omega arith, (omega arith, (omega arith, all_letters (λ b. b < 256) (omega arith) n)))));
-  nonempty = λ e. cc;
-  no_slash = ((λ e. absurd (omega arith)), ((λ e. absurd (omega arith)), ((λ e. absurd (omega arith)), ((λ e. absurd (omega arith)), ((λ e. absurd (omega arith)), all_letters (λ b. b ≢ 47) (λ e. absurd (omega arith)) n)))));
-  no_zero = ((λ e. absurd (omega arith)), ((λ e. absurd (omega arith)), ((λ e. absurd (omega arith)), ((λ e. absurd (omega arith)), ((λ e. absurd (omega arith)), all_letters (λ b. b ≢ 0) (λ e. absurd (omega arith)) n)))));
-  not_dot = λ e. let first : ◌≡◌ {A = ℕ} 111 46 = cc in absurd (omega arith);
-  not_dots = λ e. let first : ◌≡◌ {A = ℕ} 111 46 = cc in absurd (omega arith);
-}
 
 -- a child with this name is the child of one of the paths
 child_in : (q : Path) (name : Segment) (ws : List Path) → list_any (λ p. path_eq q (p ++ name ∷ [])) ws ≡ true → (p : Path) × IsTrue (is_among p ws) × (q ≡ p ++ name ∷ [])
@@ -116,16 +86,6 @@ pub root_or : (p : Path) → (p ≡ []) ⊎ (p ≢ [])
 root_or [] = inl refl
 root_or (s ∷ p) = inr (λ e. cc)
 
--- nothing behind a path leaves the path
-pub append_none : (p : Path) → p ++ [] ≡ p
-append_none [] = refl
-append_none (s ∷ p) = ap (λ q. s ∷ q) (append_none p)
-
--- a disjunction with false is its other side
-or_none : (b : Bool) → (b || false) ≡ b
-or_none true = refl
-or_none false = refl
-
 -- the paths of the programs with those above them are the named ones
 pub named_exactly : (es : List Program) (ps : List Path) → SameMembers ps (paths_among (all_matters es)) → (q : Path) → IsTrue (is_among q (all_fronts ps)) ↔ IsNamed es q
 named_exactly es ps same q = (
@@ -134,8 +94,8 @@ named_exactly es ps same q = (
 )
 
 -- the paths that were gathered are just those that the programs mention
-pub paths_in : (es : List Program) (f : Found) → told f ≡ gather (all_matters es) nothing → (q : Path) → is_among q f.paths.keys ≡ is_among q (paths_among (all_matters es))
-paths_in es f found q = ap (λ (g : Gathered). g.paths q) found ∙ paths_are (all_matters es) nothing q ∙ or_none (is_among q (paths_among (all_matters es)))
+pub paths_in : (es : List Program) (f : Found) → gathered_of f ≡ gather (all_matters es) nothing → (q : Path) → is_among q f.paths.keys ≡ is_among q (paths_among (all_matters es))
+paths_in es f found q = ap (λ (g : Gathered). g.paths q) found ∙ paths_are (all_matters es) nothing q ∙ or-false (is_among q (paths_among (all_matters es)))
 
 -- ---- the parts of a layout
 
@@ -148,13 +108,13 @@ pub record Parts (es : List Program) (ps ws ks : List Path) (fresh : Paths) (n :
   pub all : (q : Path) → is_among q ks ≡ (fresh q || is_among q (all_fronts ps))
 
 -- what the code gathered is this
-pub parts_of : (es : List Program) (f : Found) (ks : List Path) (name : List ℕ) (fresh : Paths) → told f ≡ gather (all_matters es) nothing
+pub parts_of : (es : List Program) (f : Found) (ks : List Path) (name : List ℕ) (fresh : Paths) → gathered_of f ≡ gather (all_matters es) nothing
     → (named : (n : ℕ) × (name ≡ other_segment n) × IsFirstFailure (λ k. IsTrue (has_segment (other_segment k) f.paths.keys)) n)
     → ((q : Path) → fresh q ≡ list_any (λ p. path_eq q (p ++ name ∷ [])) f.watched.keys) → ((q : Path) → is_among q ks ≡ (fresh q || is_among q (all_fronts f.paths.keys)))
     → Parts es f.paths.keys f.watched.keys ks fresh named.0
 parts_of es f ks name fresh found named children all = record {
   paths = paths_in es f found;
-  watched = λ q. ap (λ (g : Gathered). g.watched q) found ∙ watched_are (all_matters es) nothing q ∙ or_none (is_among q (watched_among (all_matters es)));
+  watched = λ q. ap (λ (g : Gathered). g.watched q) found ∙ watched_are (all_matters es) nothing q ∙ or-false (is_among q (watched_among (all_matters es)));
   segment = named.2;
   children = λ q. children q ∙ ap (λ s. list_any (λ p. path_eq q (p ++ s ∷ [])) f.watched.keys) named.1;
   all = all;
@@ -228,7 +188,7 @@ module _ (es : List Program) (ps ws ks : List Path) (fresh : Paths) (n : ℕ) (p
   above_child : (r : Path) → AnyMentions es (Below r) → (r ≡ []) ⊎ IsTrue (is_among r ks)
   above_child r h = elim (root_or r) [
     | inl root ↦ inl root
-    | inr below ↦ inr (among_named r (record { not_root = below; more = []; spoken = subst (SpeakOf es) (sym (append_none r)) (inr h) }))
+    | inr below ↦ inr (among_named r (record { not_root = below; more = []; spoken = subst (SpeakOf es) (sym (append-nil r)) (inr h) }))
   ]
 
   -- none of the laid out paths is the root, and each has its parent there

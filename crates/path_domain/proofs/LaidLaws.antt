@@ -1,5 +1,5 @@
 -- Paths with those above them, and in order.
-use Rattle.std.proofs.Common.{◌≡◌, ◌≢◌, ◌⊎◌, inl, inr, ℕ, zero, suc, ◌+◌, ◌<◌, Bool, true, false, cond, ◌||◌, List, [], ◌∷◌, ◌++◌, map, length, take, drop, get_or, Option, Some, None, Less, Equal, refl, sym, ap, subst, ◌∙◌, arith, append_assoc}
+use Rattle.std.proofs.Common.{◌≡◌, ◌≢◌, ◌⊎◌, inl, inr, ℕ, zero, suc, ◌+◌, ◌<◌, true, false, cond, ◌||◌, List, [], ◌∷◌, ◌++◌, map, length, take, drop, get_or, Option, Some, None, Less, Equal, refl, sym, ap, subst, ◌∙◌, arith, append_assoc}
 use Rattle.std.specs.Prelude.{slice_get}
 use Rattle.std.specs.List.{list_any, AllByRecursion}
 use Rattle.std.specs.List.Sorted.{IsStrictlySortedBy}
@@ -13,12 +13,13 @@ use Rattle.std.proofs.lemmas.Map.Keys.{sorted_head, sorted_tail}
 use Rattle.std.proofs.lemmas.List.Folds.{list_any-append}
 use Rattle.fs_semantics.specs.FileTree.{Path, path_cmp, path_eq, parent, is_among}
 use Rattle.fs_semantics.proofs.Trees.{path_total, path_eq_refl, path_eq_same}
-use Rattle.fs_semantics.proofs.Keys.{same_bool}
 use Rattle.fs_interpreter.specs.Places.{Listed, HasPath, place_in, one_further, or_added}
 use Rattle.finite_domain.specs.Matters.{fronts, all_fronts}
 use Rattle.path_domain.specs.Gathered.{Paths, with_one}
 use Rattle.path_domain.specs.Laid.{places_from, HaveParents}
 use Rattle.path_domain.proofs.TextLaws.{next_number, moved}
+use Rattle.std.proofs.Math.Bool.{or-false}
+use Rattle.path_domain.proofs.SetLaws.{path_eq_flip}
 
 -- ---- fronts
 
@@ -34,18 +35,13 @@ fronts_suc (suc k) (s ∷ p) h =
 fronts_more : (k : ℕ) (p : Path) → k < length p → fronts (take (k + 1) p) ≡ fronts (take k p) ++ take (k + 1) p ∷ []
 fronts_more k p h = subst (λ n. fronts (take n p) ≡ fronts (take k p) ++ take n p ∷ []) (next_number k) (fronts_suc k p h)
 
--- a disjunction with false is its other side
-or_none : (b : Bool) → (b || false) ≡ b
-or_none true = refl
-or_none false = refl
-
 -- one front more
 pub front_put : (p front : Path) (k : ℕ) (f g h : Paths) (q : Path) → k < length p → front ≡ take (k + 1) p → g q ≡ (is_among q (fronts (take k p)) || f q) → h ≡ with_one front g
     → h q ≡ (is_among q (fronts (take (k + 1) p)) || f q)
 front_put p front k f g h q below is before put =
     ap (λ s. s q) put ∙ ap (λ b. path_eq q front || b) before ∙ ap (λ r. path_eq q r || (is_among q (fronts (take k p)) || f q)) is
     ∙ moved (path_eq q (take (k + 1) p)) (is_among q (fronts (take k p))) (f q)
-    ∙ ap (λ b. (is_among q (fronts (take k p)) || b) || f q) (sym (or_none (path_eq q (take (k + 1) p))))
+    ∙ ap (λ b. (is_among q (fronts (take k p)) || b) || f q) (sym (or-false (path_eq q (take (k + 1) p))))
     ∙ ap (λ b. b || f q) (sym (list_any-append (path_eq q) (fronts (take k p)) (take (k + 1) p ∷ [])))
     ∙ ap (λ ps. is_among q ps || f q) (sym (fronts_more k p below))
 
@@ -109,17 +105,13 @@ before_all (f ∷ front) rest p sorted =
     ap (λ b. b || is_among p front) (differs p f (at_last front rest p f (sorted_head path_cmp f (front ++ p ∷ rest) sorted)))
     ∙ before_all front rest p (sorted_tail path_cmp f (front ++ p ∷ rest) sorted)
 
--- two paths are one either way round
-flip : (p q : Path) → path_eq p q ≡ path_eq q p
-flip p q = same_bool (path_eq p q) (path_eq q p) (λ h. ap (λ r. path_eq r p) (sym (path_eq_same p q h)) ∙ path_eq_refl p) (λ h. ap (λ r. path_eq r q) (sym (path_eq_same q p h)) ∙ path_eq_refl q)
-
 -- a path that isn't among all has no place
 no_place : (ps : List Path) (p : Path) → is_among p ps ≡ false → place_in ps p ≡ None
 no_place [] p h = refl
 no_place (q ∷ ps) p h = elim (path_eq q p) as (λ b. (b || is_among p ps) ≡ false → cond b (Some 0) (one_further (place_in ps p)) ≡ None) [
   | true ↦ λ k. cc
   | false ↦ λ k. ap one_further (no_place ps p k)
-] (ap (λ b. b || is_among p ps) (flip q p) ∙ h)
+] (ap (λ b. b || is_among p ps) (path_eq_flip q p) ∙ h)
 
 -- the next path is put last
 pub next_path : (front rest all : List Path) (p : Path) → front ++ p ∷ rest ≡ all → Sorted all → or_added (place_in front p) front p ++ rest ≡ all
@@ -146,7 +138,7 @@ is_there : (front rest : List Path) (p : Path) → is_among p (front ++ p ∷ re
 is_there front rest p = list_any-append (path_eq p) front (p ∷ rest) ∙ or_right (is_among p front) _ (or_left _ _ (path_eq_refl p))
 
 -- what is less than all of a list is less than each member
-all_at : (f : Path) (ps : List Path) (q : Path) → AllByRecursion (λ r. path_cmp f r ≡ Less) ps → is_among q ps ≡ true → path_cmp f q ≡ Less
+pub all_at : (f : Path) (ps : List Path) (q : Path) → AllByRecursion (λ r. path_cmp f r ≡ Less) ps → is_among q ps ≡ true → path_cmp f q ≡ Less
 all_at f [] q all h = cc
 all_at f (r ∷ ps) q all h = elim (or_cases (path_eq q r) (is_among q ps) h) [
   | inl here ↦ ap (path_cmp f) (path_eq_same q r here) ∙ all.0

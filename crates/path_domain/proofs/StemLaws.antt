@@ -6,11 +6,10 @@ use Rattle.std.proofs.lemmas.Fmt.{decimal_injective}
 use Rattle.std.proofs.lemmas.List.{append_cancel_left, take_more}
 use Rattle.std.proofs.lemmas.Option.{slice_get-get_or, slice_get_within}
 use Rattle.fs_semantics.specs.FileTree.{Path}
-use Rattle.fs_semantics.proofs.Keys.{same_bool}
 use Rattle.fs_interpreter.specs.Places.{content_place, one_further, or_added}
 use Rattle.finite_domain.specs.Domains.{text_eq, is_text_among}
 use Rattle.finite_domain.specs.Layouts.{letters, stem, numbered}
-use Rattle.finite_domain.proofs.Texts.{text_same, text_itself, among_append, among_left, among_right}
+use Rattle.finite_domain.proofs.Texts.{text_same, text_itself, among_append, among_left, among_right, text_eq_sym}
 use Rattle.path_domain.specs.Laid.{Starts}
 use Rattle.path_domain.proofs.TextLaws.{next_number, letters_end}
 
@@ -109,17 +108,13 @@ in_numbers start (suc n) c h = elim (among_append c (numbers_to start n) ((start
   | inr new ↦ (n, omega arith, elim (or_cases (text_eq c (start ++ decimal n)) false new) [ inl e ↦ text_same c _ e | inr none ↦ absurd (both_ways false refl none) ])
 ]
 
--- two texts are the same either way round
-pub flip : (c d : List ℕ) → text_eq c d ≡ text_eq d c
-flip c d = same_bool (text_eq c d) (text_eq d c) (λ h. text_itself d c (sym (text_same c d h))) (λ h. text_itself c d (sym (text_same d c h)))
-
 -- a content that isn't among all has no place
 pub not_placed : (cs : List (List ℕ)) (c : List ℕ) → is_text_among c cs ≡ false → content_place cs c ≡ None
 not_placed [] c h = refl
 not_placed (d ∷ cs) c h = elim (text_eq d c) as (λ b. (b || is_text_among c cs) ≡ false → cond b (Some 0) (one_further (content_place cs c)) ≡ None) [
   | true ↦ λ k. cc
   | false ↦ λ k. ap one_further (not_placed cs c k)
-] (ap (λ b. b || is_text_among c cs) (flip d c) ∙ h)
+] (ap (λ b. b || is_text_among c cs) (text_eq_sym d c) ∙ h)
 
 -- the next text by number isn't among the earlier ones
 is_new : (start : List ℕ) (i : ℕ) (cs : List (List ℕ)) → i < 2 ^ 64 → is_text_among (start ++ decimal i) cs ≡ false → is_text_among (start ++ decimal i) (cs ++ numbers_to start i) ≡ false

@@ -16,20 +16,12 @@ use Rattle.finite_domain.specs.Layouts.{letters, other_segment}
 use Rattle.finite_domain.specs.Matters.{has_segment}
 use Rattle.finite_domain.proofs.Texts.{text_same, text_itself}
 use Rattle.path_domain.specs.Segments.{Texts, texts_in, with_text}
-
--- what is implied by a side of a disjunction is the whole of it
-same_or : (b x : Bool) → (b ≡ true → x ≡ true) → x ≡ (b || x)
-same_or true x h = h refl
-same_or false x h = refl
+use Rattle.std.proofs.lemmas.List.{append-nil}
+use Rattle.path_domain.proofs.SetLaws.{same_or, one_more}
 
 -- a text that is in the set is one more without a change
 pub already : {Y : Type 0} (s : BTreeSet (String Y)) (c : List ℕ) → texts_in s c ≡ true → texts_in s ≡ with_text c (texts_in s)
 already s c h = λ i d. same_or (text_eq d c) (texts_in s d) (λ e. ap (texts_in s) (text_same d c e) ∙ h) i
-
--- true under a condition, and else another truth value, is one of the two
-one_more : (b x : Bool) → cond b true x ≡ (b || x)
-one_more true x = refl
-one_more false x = refl
 
 -- two texts are the same either way round, byte by byte or in order
 bytes_flip : (c d : List ℕ) → bytes_eq c d ≡ text_eq d c
@@ -82,14 +74,9 @@ pub letters_more : (n : ℕ) (rest : List ℕ) → letters n ++ 120 ∷ rest ≡
 letters_more zero rest = refl
 letters_more (suc n) rest = ap (λ c. 120 ∷ c) (letters_more n rest)
 
--- nothing behind a text leaves the text
-append_nothing : (c : List ℕ) → c ++ [] ≡ c
-append_nothing [] = refl
-append_nothing (b ∷ c) = ap (λ d. b ∷ d) (append_nothing c)
-
 -- a letter at the end of n letters makes them n + 1
 pub letters_end : (n : ℕ) → letters n ++ 120 ∷ [] ≡ letters (suc n)
-letters_end n = letters_more n [] ∙ append_nothing (letters (suc n))
+letters_end n = letters_more n [] ∙ append-nil (letters (suc n))
 
 -- the next name of fresh children has one letter more
 pub other_more : (n : ℕ) → other_segment n ++ 120 ∷ [] ≡ other_segment (suc n)

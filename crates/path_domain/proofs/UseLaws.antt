@@ -10,10 +10,10 @@ use Rattle.finite_domain.specs.Mentions.{Matter, At, Below, Text}
 use Rattle.finite_domain.specs.Matters.{matters_of, matters_of_steps, all_matters, paths_among, watched_among, texts_among}
 use Rattle.finite_domain.specs.Domains.{text_eq, is_text_among}
 use Rattle.finite_domain.specs.Layouts.{first_uses}
-use Rattle.finite_domain.proofs.Texts.{text_same}
+use Rattle.finite_domain.proofs.Texts.{text_same, text_eq_sym}
 use Rattle.path_domain.specs.Gathered.{Gathered, nothing, with_matter, gather}
 use Rattle.path_domain.proofs.TextLaws.{moved}
-use Rattle.path_domain.proofs.StemLaws.{not_placed, flip}
+use Rattle.path_domain.proofs.StemLaws.{not_placed}
 
 -- the steps of a list mention what its programs mention
 pub same_matters : (es : List CodeProgram) → matters_of_steps (programs_in es) ≡ all_matters (map program_of es)
@@ -22,22 +22,18 @@ same_matters (e ∷ es) = ap (λ xs. matters_of (program_of e) ++ xs) (same_matt
 
 -- ---- paths
 
--- the sides of a disjunction may be told in another order
-later : (a b c : Bool) → (a || (b || c)) ≡ ((b || a) || c)
-later a b c = moved a b c
-
 -- the paths that are gathered are those that are mentioned and those of before
 pub paths_are : (xs : List Matter) (g : Gathered) (q : Path) → (gather xs g).paths q ≡ (is_among q (paths_among xs) || g.paths q)
 paths_are [] g q = refl
-paths_are (At p ∷ xs) g q = paths_are xs (with_matter (At p) g) q ∙ later (is_among q (paths_among xs)) (path_eq q p) (g.paths q)
-paths_are (Below p ∷ xs) g q = paths_are xs (with_matter (Below p) g) q ∙ later (is_among q (paths_among xs)) (path_eq q p) (g.paths q)
+paths_are (At p ∷ xs) g q = paths_are xs (with_matter (At p) g) q ∙ moved (is_among q (paths_among xs)) (path_eq q p) (g.paths q)
+paths_are (Below p ∷ xs) g q = paths_are xs (with_matter (Below p) g) q ∙ moved (is_among q (paths_among xs)) (path_eq q p) (g.paths q)
 paths_are (Text c ∷ xs) g q = paths_are xs (with_matter (Text c) g) q
 
 -- and so are the watched ones
 pub watched_are : (xs : List Matter) (g : Gathered) (q : Path) → (gather xs g).watched q ≡ (is_among q (watched_among xs) || g.watched q)
 watched_are [] g q = refl
 watched_are (At p ∷ xs) g q = watched_are xs (with_matter (At p) g) q
-watched_are (Below p ∷ xs) g q = watched_are xs (with_matter (Below p) g) q ∙ later (is_among q (watched_among xs)) (path_eq q p) (g.watched q)
+watched_are (Below p ∷ xs) g q = watched_are xs (with_matter (Below p) g) q ∙ moved (is_among q (watched_among xs)) (path_eq q p) (g.watched q)
 watched_are (Text c ∷ xs) g q = watched_are xs (with_matter (Text c) g) q
 
 -- what is gathered puts no path into the table
@@ -74,7 +70,7 @@ placed [] c h = cc
 placed (d ∷ cs) c h = elim (text_eq d c) as (λ b. (b || is_text_among c cs) ≡ true → (i : ℕ) × (cond b (Some 0) (one_further (content_place cs c)) ≡ Some i)) [
   | true ↦ λ k. (0, refl)
   | false ↦ λ k. let more = placed cs c k in (suc more.0, ap one_further more.1)
-] (ap (λ b. b || is_text_among c cs) (flip d c) ∙ h)
+] (ap (λ b. b || is_text_among c cs) (text_eq_sym d c) ∙ h)
 
 -- those that aren't in the list
 abbrev others : List (List ℕ) → List ℕ → Bool
@@ -112,7 +108,7 @@ one_text cs ts c = elim (cases_Bool (is_text_among c cs)) [
       ap (λ o. or_added o cs c ++ filter (others (or_added o cs c)) (first_uses ts)) (not_placed cs c none)
       ∙ append_assoc cs (c ∷ []) (filter (others (cs ++ c ∷ [])) (first_uses ts))
       ∙ ap (λ ds. cs ++ c ∷ ds) (filter_both (others cs) (λ d. not (text_eq c d)) (others (cs ++ c ∷ [])) (first_uses ts)
-      (λ d. ap not (append_among d c cs) ∙ not_or (is_text_among d cs) (text_eq d c) ∙ ap (λ b. not (is_text_among d cs) && not b) (flip d c)))
+      (λ d. ap not (append_among d c cs) ∙ not_or (is_text_among d cs) (text_eq d c) ∙ ap (λ b. not (is_text_among d cs) && not b) (text_eq_sym d c)))
       ∙ ap (λ ds. cs ++ ds) (sym (ap (λ b. cond b (c ∷ filter (others cs) (filter (λ d. not (text_eq c d)) (first_uses ts))) (filter (others cs) (filter (λ d. not (text_eq c d)) (first_uses ts)))) (ap not none)))
 ]
 
@@ -130,7 +126,7 @@ table_contents (Text c ∷ xs) g = table_contents xs (with_matter (Text c) g) �
 
 -- all contents that are gathered are the empty text and the others where they are used first
 pub contents_are : (xs : List Matter) → (gather xs nothing).table.contents ≡ first_uses ([] ∷ texts_among xs)
-contents_are xs = table_contents xs nothing ∙ ap (λ ds. [] ∷ ds) (filter_same (others ([] ∷ [])) (λ d. not (text_eq [] d)) (first_uses (texts_among xs)) (λ d. ap not (or_none (text_eq d []) ∙ flip d [])))
+contents_are xs = table_contents xs nothing ∙ ap (λ ds. [] ∷ ds) (filter_same (others ([] ∷ [])) (λ d. not (text_eq [] d)) (first_uses (texts_among xs)) (λ d. ap not (or_none (text_eq d []) ∙ text_eq_sym d [])))
   where
     or_none : (b : Bool) → (b || false) ≡ b
     or_none true = refl

@@ -25,8 +25,8 @@ pub record Gathered : Type 0 where
   pub table : Listed
 
 -- what the code has gathered, with its sets by their tests
-abbrev pub told : Found → Gathered
-told f = record { paths = members f.paths; watched = members f.watched; table = f.table }
+abbrev pub gathered_of : Found → Gathered
+gathered_of f = record { paths = members f.paths; watched = members f.watched; table = f.table }
 
 -- no paths yet, and the empty text
 abbrev pub nothing : Gathered

@@ -2,7 +2,7 @@
 
 ghost use Rattle.std.specs.Prelude.{◌≡◌, ◌∷◌, [], IfOk, OnOk};
 ghost use Rattle.finite_domain.specs.Mentions.{At, Below, Text as Content};
-ghost use Rattle.path_domain.specs.Gathered.{nothing, told, gather};
+ghost use Rattle.path_domain.specs.Gathered.{nothing, gathered_of, gather};
 
 use crate::sets::add;
 use fs_interpreter::Table;
@@ -21,7 +21,7 @@ pub(crate) struct Found {
 
 /// No paths yet, and the empty text.
 pub(crate) fn nothing(alloc: Global) -> Result<Found, NoMemory>
-    ensures { IfOk result (λ found. told found ≡ nothing) }
+    ensures { IfOk result (λ found. gathered_of found ≡ nothing) }
 {
     let mut table = Table::new(alloc)?;
     table.add_content(alloc, Text::new(alloc))?;
@@ -34,14 +34,14 @@ pub(crate) fn nothing(alloc: Global) -> Result<Found, NoMemory>
 
 /// A path.
 pub(crate) fn see(alloc: Global, found: &mut Found, p: &Path) -> Result<(), NoMemory>
-    ensures { OnOk result (told found.new ≡ gather (At p.now ∷ []) (told found.old)) }
+    ensures { OnOk result (gathered_of found.new ≡ gather (At p.now ∷ []) (gathered_of found.old)) }
 {
     add(alloc, &mut found.paths, p)
 }
 
 /// A path whose children matter.
 pub(crate) fn watch(alloc: Global, found: &mut Found, p: &Path) -> Result<(), NoMemory>
-    ensures { OnOk result (told found.new ≡ gather (Below p.now ∷ []) (told found.old)) }
+    ensures { OnOk result (gathered_of found.new ≡ gather (Below p.now ∷ []) (gathered_of found.old)) }
 {
     add(alloc, &mut found.paths, p)?;
     add(alloc, &mut found.watched, p)
@@ -49,7 +49,7 @@ pub(crate) fn watch(alloc: Global, found: &mut Found, p: &Path) -> Result<(), No
 
 /// A path with the content or the target that it gets.
 pub(crate) fn write(alloc: Global, found: &mut Found, p: &Path, c: &Text) -> Result<(), NoMemory>
-    ensures { OnOk result (told found.new ≡ gather (At p.now ∷ Content c.now ∷ []) (told found.old)) }
+    ensures { OnOk result (gathered_of found.new ≡ gather (At p.now ∷ Content c.now ∷ []) (gathered_of found.old)) }
 {
     add(alloc, &mut found.paths, p)?;
     found.table.add_content(alloc, c.copy(alloc)?)?;
@@ -63,7 +63,7 @@ pub(crate) fn see_both(
     from: &Path,
     p: &Path,
 ) -> Result<(), NoMemory>
-    ensures { OnOk result (told found.new ≡ gather (At from.now ∷ At p.now ∷ []) (told found.old)) }
+    ensures { OnOk result (gathered_of found.new ≡ gather (At from.now ∷ At p.now ∷ []) (gathered_of found.old)) }
 {
     see(alloc, found, from)?;
     see(alloc, found, p)

@@ -7,7 +7,7 @@ ghost use Rattle.fs_interpreter.specs.Places.{CoversSteps};
 ghost use Rattle.finite_domain.specs.Domains.{IsNamed, IsDomain};
 ghost use Rattle.finite_domain.specs.Matters.{all_matters, all_fronts, has_segment};
 ghost use Rattle.finite_domain.specs.Layouts.{numbered, other_segment, stem, IsFirstFailure, domain_of, IsLayout};
-ghost use Rattle.path_domain.specs.Gathered.{members, told, gather, nothing};
+ghost use Rattle.path_domain.specs.Gathered.{members, gathered_of, gather, nothing};
 ghost use Rattle.path_domain.specs.Laid.{Starts, layout_of};
 
 use crate::found::{Found, nothing};
@@ -27,7 +27,7 @@ use std::collections::BTreeSet;
 
 /// What the programs mention.
 fn found_in(alloc: Global, programs: &[Program]) -> Result<Found, NoMemory>
-    ensures { IfOk result (λ found. told found ≡ gather (all_matters (map program_of programs.now)) nothing) }
+    ensures { IfOk result (λ found. gathered_of found ≡ gather (all_matters (map program_of programs.now)) nothing) }
 {
     let mut found = nothing(alloc)?;
     walk_all(alloc, programs, &mut found)?;

@@ -3,7 +3,7 @@
 ghost use Rattle.std.specs.Prelude.{◌≡◌, ◌++◌, OnOk};
 ghost use Rattle.fs_lang.specs.Meaning.{test_of, program_of, programs_in};
 ghost use Rattle.finite_domain.specs.Matters.{matters_of_test, matters_of, matters_of_steps};
-ghost use Rattle.path_domain.specs.Gathered.{told, gather};
+ghost use Rattle.path_domain.specs.Gathered.{gathered_of, gather};
 
 use crate::found::{Found, see, see_both, watch, write};
 use fs_lang::{Program, Test};
@@ -13,7 +13,7 @@ use std::alloc::Global;
 #[cycle(asked)]
 #[tactic(auto, using(fs_lang::specs::Meaning::test_of_not, fs_lang::specs::Meaning::test_of_and, fs_lang::specs::Meaning::test_of_or))]
 fn walk_test(alloc: Global, test: &Test, found: &mut Found) -> Result<(), NoMemory>
-    ensures { OnOk result (told found.new ≡ gather (matters_of_test (test_of test.now)) (told found.old)) }
+    ensures { OnOk result (gathered_of found.new ≡ gather (matters_of_test (test_of test.now)) (gathered_of found.old)) }
 {
     match test {
         Test::True | Test::False => Ok(()),
@@ -30,7 +30,7 @@ fn walk_test(alloc: Global, test: &Test, found: &mut Found) -> Result<(), NoMemo
 
 #[cycle(asked)]
 fn walk_both(alloc: Global, a: &Test, b: &Test, found: &mut Found) -> Result<(), NoMemory>
-    ensures { OnOk result (told found.new ≡ gather (matters_of_test (test_of a.now) ++ matters_of_test (test_of b.now)) (told found.old)) }
+    ensures { OnOk result (gathered_of found.new ≡ gather (matters_of_test (test_of a.now) ++ matters_of_test (test_of b.now)) (gathered_of found.old)) }
 {
     walk_test(alloc, a, found)?;
     walk_test(alloc, b, found)
@@ -39,7 +39,7 @@ fn walk_both(alloc: Global, a: &Test, b: &Test, found: &mut Found) -> Result<(),
 #[cycle(walked)]
 #[tactic(auto, using(fs_lang::specs::Meaning::program_of_steps, fs_lang::specs::Meaning::program_of_if))]
 fn walk(alloc: Global, program: &Program, found: &mut Found) -> Result<(), NoMemory>
-    ensures { OnOk result (told found.new ≡ gather (matters_of (program_of program.now)) (told found.old)) }
+    ensures { OnOk result (gathered_of found.new ≡ gather (matters_of (program_of program.now)) (gathered_of found.old)) }
 {
     match program {
         Program::Id | Program::Err => Ok(()),
@@ -60,7 +60,7 @@ pub(crate) fn walk_all(
     programs: &[Program],
     found: &mut Found,
 ) -> Result<(), NoMemory>
-    ensures { OnOk result (told found.new ≡ gather (matters_of_steps (programs_in programs.now)) (told found.old)) }
+    ensures { OnOk result (gathered_of found.new ≡ gather (matters_of_steps (programs_in programs.now)) (gathered_of found.old)) }
 {
     for program in programs {
         walk(alloc, program, found)?;
@@ -76,9 +76,9 @@ fn walk_choice(
     f: &Program,
     found: &mut Found,
 ) -> Result<(), NoMemory>
-    ensures { OnOk result (told found.new ≡ gather
+    ensures { OnOk result (gathered_of found.new ≡ gather
         (matters_of_test (test_of a.now) ++ (matters_of (program_of e.now) ++ matters_of (program_of f.now)))
-        (told found.old)) }
+        (gathered_of found.old)) }
 {
     walk_test(alloc, a, found)?;
     walk(alloc, e, found)?;

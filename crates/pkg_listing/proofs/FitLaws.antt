@@ -22,7 +22,8 @@ use Rattle.pkg_listing.specs.Packages.{Packages, MayBeListed, IsDigest, IsFit, A
 use Rattle.pkg_listing.specs.Reading.{package_of, packages_of}
 use Rattle.pkg_listing.specs.Form.{IsPath, IsDigestOf, IsFile, AreFiles, AreFolders}
 use Rattle.pkg_listing.proofs.PathLaws.{text_short}
-use Rattle.pkg_listing.proofs.FormLaws.{step, mapped, package_is, AreProper}
+use Rattle.pkg_listing.proofs.FormLaws.{package_is, AreProper}
+use Rattle.rh_base.proofs.Options.{bind_some, map_some}
 
 -- ---- one package
 
@@ -83,8 +84,8 @@ packages_fit version [] ps h s =
     at qs e = cc
 packages_fit version (e ∷ es) ps h s =
     let name = string_bytes e.0 in
-    let first = step (package_of version (view e.1)) (λ p. option_map (λ qs. (name, p) ∷ qs) (packages_of version (members_view es))) ps h in
-    let rest = mapped (λ qs. (name, first.0) ∷ qs) (packages_of version (members_view es)) ps first.2 in
+    let first = bind_some (package_of version (view e.1)) (λ p. option_map (λ qs. (name, p) ∷ qs) (packages_of version (members_view es))) ps h in
+    let rest = map_some (λ qs. (name, first.0) ∷ qs) (packages_of version (members_view es)) ps first.2 in
     let both = subst AreProper (sym rest.2) s in
     let more = packages_fit version es rest.0 rest.1 both.1 in
     subst (λ qs. AllByRecursion (λ p. IsFit p.1) qs × (names_of qs ≡ name ∷ map string_bytes (keys_of es))) rest.2

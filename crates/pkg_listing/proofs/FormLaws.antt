@@ -3,7 +3,7 @@ use Rattle.std.proofs.Common.{◌≡◌, ℕ, ◌==◌, Bool, true, false, true�
 use Rattle.std.specs.List.{AllByRecursion}
 use Rattle.std.proofs.Math.Dec.{eqb-suc-zero}
 use Rattle.std.proofs.Common.{leb-true}
-use Rattle.std.proofs.lemmas.Bool.{le-leb, ne_eqb}
+use Rattle.std.proofs.lemmas.Bool.{le-leb, ne_eqb, and_parts as both}
 use Rattle.serde_json.specs.Data.{Data, null, boolean, number, string, array, object, unsigned, negative, float, Items, no_items, item, Members, no_members, member}
 use Rattle.serde_json.specs.View.{members_view}
 use Rattle.serde_json.proofs.Views.{Entry, members_len-members_view}
@@ -26,76 +26,21 @@ use Rattle.pkg_listing.specs.Packages.{Packages, IsDigest, paths_of, stand_once,
 use Rattle.pkg_listing.specs.Reading.{is_managed, if_managed, managed_path, path_of, if_digest, digest_of, file_with, pair_of, file_of, files_of, folders_of, two_among, two_of, package_with, lists_of, if_once, package_among, package_of, packages_of, version_numbered, version_of, listing_among, listing_of}
 use Rattle.pkg_listing.specs.Form.{IsPath, IsDigestOf, IsPair, IsFile, AreFiles, AreFolders, IsPackage, ArePackages, IsVersion, IsListing, IsListingText}
 use Rattle.pkg_listing.proofs.PathLaws.{path_spelled, managed_where, read_path}
-
--- ---- steps of reading
-
--- what isn't there is no value
-pub no_value : {X : Type 0} (x : X) → None ≡ Some x → ⊥
-no_value x h = cc
-
--- what is there twice is one
-pub same_some : {X : Type 0} (x y : X) → ◌≡◌ {A = Option X} (Some x) (Some y) → x ≡ y
-same_some x y h = cc
-
--- a step that gave something found what it needs and gave it of that
-pub step : {X Y : Type 0} (o : Option X) (f : X → Option Y) (y : Y) → (o >>= f) ≡ Some y → (x : X) × (o ≡ Some x) × (f x ≡ Some y)
-step None f y h = absurd (no_value y h)
-step (Some x) f y h = (x, refl, h)
-
--- what was made of something was made of what is there
-pub mapped : {X Y : Type 0} (f : X → Y) (o : Option X) (y : Y) → option_map f o ≡ Some y → (x : X) × (o ≡ Some x) × (f x ≡ y)
-mapped f None y h = absurd (no_value y h)
-mapped f (Some x) y h = (x, refl, same_some (f x) y h)
-
--- what is there under a condition is there, and the condition holds
-pub guarded : {X : Type 0} (t : Bool) (o : Option X) (x : X) → cond t o None ≡ Some x → (t ≡ true) × (o ≡ Some x)
-guarded true o x h = (refl, h)
-guarded false o x h = absurd (no_value x h)
-
--- a step that was taken
-pub taken : {X Y : Type 0} (o : Option X) (f : X → Option Y) (x : X) → o ≡ Some x → (o >>= f) ≡ f x
-taken o f x h = ap (λ p. p >>= f) h
-
--- ---- what stands in JSON
-
--- JSON that gives members is their object
-pub object_is : (d : Data) (members : Members) → as_object d ≡ Some members → d ≡ object members
-object_is null members h = absurd (no_value members h)
-object_is (boolean b) members h = absurd (no_value members h)
-object_is (number n) members h = absurd (no_value members h)
-object_is (string s) members h = absurd (no_value members h)
-object_is (array items) members h = absurd (no_value members h)
-object_is (object found) members h = ap object (same_some found members h)
-
--- JSON that gives items is their list
-pub array_is : (d : Data) (items : Items) → as_array d ≡ Some items → d ≡ array items
-array_is null items h = absurd (no_value items h)
-array_is (boolean b) items h = absurd (no_value items h)
-array_is (number n) items h = absurd (no_value items h)
-array_is (string s) items h = absurd (no_value items h)
-array_is (array found) items h = ap array (same_some found items h)
-array_is (object found) items h = absurd (no_value items h)
-
--- JSON that gives a text is that string
-string_is : (d : Data) (text : List ℕ) → as_str d ≡ Some text → d ≡ string text
-string_is null text h = absurd (no_value text h)
-string_is (boolean b) text h = absurd (no_value text h)
-string_is (number n) text h = absurd (no_value text h)
-string_is (string s) text h = ap string (same_some s text h)
-string_is (array found) text h = absurd (no_value text h)
-string_is (object found) text h = absurd (no_value text h)
+use Rattle.rh_base.proofs.Options.{bind_some, map_some, if_some, bind_goes}
+use Rattle.std.proofs.lemmas.Option.{none-some, same_Some}
+use Rattle.json_parts.proofs.DataLaws.{object_is, array_is, string_is}
 
 -- ---- paths and digests
 
 -- a path that passes as one that may be managed is itself, and passes the test
 managed_is : (p q : Path) → if_managed p ≡ Some q → (is_managed p ≡ true) × (p ≡ q)
-managed_is p q h = let two = guarded (is_managed p) (Some p) q h in (two.0, same_some p q two.1)
+managed_is p q h = let two = if_some (is_managed p) (Some p) q h in (two.0, same_Some p q two.1)
 
 -- a path that is read of JSON is the one of its form
 pub path_is : (d : Data) (p : Path) → path_of d ≡ Some p → AllByRecursion IsSegment p → IsPath p d
 path_is d p h s =
-    let text = step (as_str d) managed_path p h in
-    let read = step (path_in text.0) if_managed p text.2 in
+    let text = bind_some (as_str d) managed_path p h in
+    let read = bind_some (path_in text.0) if_managed p text.2 in
     let managed = managed_is read.0 p read.2 in
     record {
       text = text.0;
@@ -107,11 +52,6 @@ path_is d p h s =
 -- and a path of the form is read
 pub path_back : (d : Data) (p : Path) → IsPath p d → path_of d ≡ Some p
 path_back d p h = ap path_of h.is_text ∙ read_path h.text p h.spells h.managed
-
--- of a conjunction that is true both sides are true
-both : (a b : Bool) → (a && b) ≡ true → (a ≡ true) × (b ≡ true)
-both true b h = (refl, h)
-both false b h = absurd (true≢false (sym h))
 
 -- a text whose length passes the test may be a digest
 digest_length : (l : List ℕ) → (not (length l == 0) && nat_le (length l) DIGEST_BYTES) ≡ true → IsDigest (Some l)
@@ -126,21 +66,21 @@ digest_test (b ∷ l) h = ap₂ (λ x y. not x && y) (eqb-suc-zero (length l)) (
 -- a text that passes as a digest is itself, and may be one
 digest_text_is : (text digest : List ℕ) → if_digest text ≡ Some digest → (text ≡ digest) × IsDigest (Some digest)
 digest_text_is text digest h =
-    let two = guarded (not (length text == 0) && nat_le (length text) DIGEST_BYTES) (Some text) digest h in
-    let same = same_some text digest two.1 in
+    let two = if_some (not (length text == 0) && nat_le (length text) DIGEST_BYTES) (Some text) digest h in
+    let same = same_Some text digest two.1 in
     (same, subst (λ d. IsDigest (Some d)) same (digest_length text two.0))
 
 -- a digest that is read of JSON, or none, is the one of its form
 pub digest_is : (d : Data) (digest : Option (List ℕ)) → digest_of d ≡ Some digest → IsDigestOf digest d
-digest_is null digest h = subst (λ g. IsDigestOf g null) (same_some None digest h) refl
-digest_is (boolean b) digest h = absurd (no_value digest h)
-digest_is (number n) digest h = absurd (no_value digest h)
+digest_is null digest h = subst (λ g. IsDigestOf g null) (same_Some None digest h) refl
+digest_is (boolean b) digest h = absurd (none-some digest h)
+digest_is (number n) digest h = absurd (none-some digest h)
 digest_is (string text) digest h =
-    let two = mapped (λ t. Some t) (if_digest text) digest h in
+    let two = map_some (λ t. Some t) (if_digest text) digest h in
     let is = digest_text_is text two.0 two.1 in
     subst (λ g. IsDigestOf g (string text)) two.2 (ap string is.0, is.1)
-digest_is (array items) digest h = absurd (no_value digest h)
-digest_is (object _) digest h = absurd (no_value digest h)
+digest_is (array items) digest h = absurd (none-some digest h)
+digest_is (object _) digest h = absurd (none-some digest h)
 
 -- a text that may be a digest passes as one
 digest_text_back : (text : List ℕ) → IsDigest (Some text) → if_digest text ≡ Some text
@@ -159,11 +99,11 @@ listed_same f p digest h = (ap (λ l. l.path) h, ap (λ l. l.digest) h)
 
 -- a file that is read of a list of two is that of its path and its digest
 pair_is : (d : Data) (items : Items) (f : Listed) → d ≡ array items → pair_of items ≡ Some f → AllByRecursion IsSegment f.path → IsPair f d
-pair_is d no_items f e h s = absurd (no_value f h)
-pair_is d (item p no_items) f e h s = absurd (no_value f h)
+pair_is d no_items f e h s = absurd (none-some f h)
+pair_is d (item p no_items) f e h s = absurd (none-some f h)
 pair_is d (item p (item digest no_items)) f e h s =
-    let path = step (path_of p) (λ q. option_map (λ g. file_with g q) (digest_of digest)) f h in
-    let found = mapped (λ g. file_with g path.0) (digest_of digest) f path.2 in
+    let path = bind_some (path_of p) (λ q. option_map (λ g. file_with g q) (digest_of digest)) f h in
+    let found = map_some (λ g. file_with g path.0) (digest_of digest) f path.2 in
     let same = listed_same f path.0 found.0 found.2 in
     record {
       path = p;
@@ -172,16 +112,16 @@ pair_is d (item p (item digest no_items)) f e h s =
       is_path = path_is p f.path (path.1 ∙ ap (λ q. Some q) same.0) s;
       is_digest = digest_is digest f.digest (found.1 ∙ ap (λ g. Some g) same.1);
     }
-pair_is d (item p (item digest (item c more))) f e h s = absurd (no_value f h)
+pair_is d (item p (item digest (item c more))) f e h s = absurd (none-some f h)
 
 -- a file that is read of JSON is the one of its form
 pub file_is : (version : Version) (d : Data) (f : Listed) → file_of version d ≡ Some f → AllByRecursion IsSegment f.path → IsFile version f d
 file_is First d f h s =
-    let path = mapped (file_with None) (path_of d) f h in
+    let path = map_some (file_with None) (path_of d) f h in
     let same = listed_same f path.0 None path.2 in
     (path_is d f.path (path.1 ∙ ap (λ q. Some q) same.0) s, sym same.1)
 file_is Second d f h s =
-    let items = step (as_array d) pair_of f h in
+    let items = bind_some (as_array d) pair_of f h in
     pair_is d items.0 f (array_is d items.0 items.1) items.2 s
 
 -- a file without a digest is its path with none
@@ -193,15 +133,15 @@ pub file_back : (version : Version) (d : Data) (f : Listed) → IsFile version f
 file_back First d f h = ap (option_map (file_with None)) (path_back d f.path h.0) ∙ ap (λ l. Some l) (with_none f h.1)
 file_back Second d f h =
     ap (λ e. as_array e >>= pair_of) h.is_list
-    ∙ (taken (path_of h.path) (λ q. option_map (λ g. file_with g q) (digest_of h.digest)) f.path (path_back h.path f.path h.is_path)
+    ∙ (bind_goes (path_of h.path) (λ q. option_map (λ g. file_with g q) (digest_of h.digest)) f.path (path_back h.path f.path h.is_path)
     ∙ ap (option_map (λ g. file_with g f.path)) (digest_back h.digest f.digest h.is_digest))
 
 -- the files that are read of items are those of their form
 pub files_are : (version : Version) (items : Items) (files : List Listed) → files_of version items ≡ Some files → AllByRecursion (λ f. AllByRecursion IsSegment f.path) files → AreFiles version files items
-files_are version no_items files h s = subst (λ fs. AreFiles version fs no_items) (same_some [] files h) tt
+files_are version no_items files h s = subst (λ fs. AreFiles version fs no_items) (same_Some [] files h) tt
 files_are version (item d items) files h s =
-    let first = step (file_of version d) (λ f. option_map (λ fs. f ∷ fs) (files_of version items)) files h in
-    let rest = mapped (λ fs. first.0 ∷ fs) (files_of version items) files first.2 in
+    let first = bind_some (file_of version d) (λ f. option_map (λ fs. f ∷ fs) (files_of version items)) files h in
+    let rest = map_some (λ fs. first.0 ∷ fs) (files_of version items) files first.2 in
     let both = subst (AllByRecursion (λ f. AllByRecursion IsSegment f.path)) (sym rest.2) s in
     subst (λ fs. AreFiles version fs (item d items)) rest.2 (file_is version d first.0 first.1 both.0, files_are version items rest.0 rest.1 both.1)
 
@@ -211,14 +151,14 @@ files_back version no_items [] h = refl
 files_back version no_items (f ∷ files) h = absurd h
 files_back version (item d items) [] h = absurd h
 files_back version (item d items) (f ∷ files) h =
-    taken (file_of version d) (λ g. option_map (λ fs. g ∷ fs) (files_of version items)) f (file_back version d f h.0) ∙ ap (option_map (λ fs. f ∷ fs)) (files_back version items files h.1)
+    bind_goes (file_of version d) (λ g. option_map (λ fs. g ∷ fs) (files_of version items)) f (file_back version d f h.0) ∙ ap (option_map (λ fs. f ∷ fs)) (files_back version items files h.1)
 
 -- the folders that are read of items are those of their form
 pub folders_are : (items : Items) (folders : List Path) → folders_of items ≡ Some folders → AllByRecursion (AllByRecursion IsSegment) folders → AreFolders folders items
-folders_are no_items folders h s = subst (λ ps. AreFolders ps no_items) (same_some [] folders h) tt
+folders_are no_items folders h s = subst (λ ps. AreFolders ps no_items) (same_Some [] folders h) tt
 folders_are (item d items) folders h s =
-    let first = step (path_of d) (λ p. option_map (λ ps. p ∷ ps) (folders_of items)) folders h in
-    let rest = mapped (λ ps. first.0 ∷ ps) (folders_of items) folders first.2 in
+    let first = bind_some (path_of d) (λ p. option_map (λ ps. p ∷ ps) (folders_of items)) folders h in
+    let rest = map_some (λ ps. first.0 ∷ ps) (folders_of items) folders first.2 in
     let both = subst (AllByRecursion (AllByRecursion IsSegment)) (sym rest.2) s in
     subst (λ ps. AreFolders ps (item d items)) rest.2 (path_is d first.0 first.1 both.0, folders_are items rest.0 rest.1 both.1)
 
@@ -228,7 +168,7 @@ folders_back no_items [] h = refl
 folders_back no_items (p ∷ folders) h = absurd h
 folders_back (item d items) [] h = absurd h
 folders_back (item d items) (p ∷ folders) h =
-    taken (path_of d) (λ q. option_map (λ ps. q ∷ ps) (folders_of items)) p (path_back d p h.0) ∙ ap (option_map (λ ps. p ∷ ps)) (folders_back items folders h.1)
+    bind_goes (path_of d) (λ q. option_map (λ ps. q ∷ ps) (folders_of items)) p (path_back d p h.0) ∙ ap (option_map (λ ps. p ∷ ps)) (folders_back items folders h.1)
 
 -- ---- objects of two keys
 
@@ -243,10 +183,10 @@ pub record Two (a b : List ℕ) (d x y : Data) : Type 0 where
 -- values that are read of an object of two keys are those of its form
 pub two_are : (a b : List ℕ) (d : Data) (two : Data × Data) → two_of a b d ≡ Some two → Two a b d two.0 two.1
 two_are a b d two h =
-    let members = step (as_object d) (two_among a b) two h in
-    let test = guarded (members_len members.0 == 2) (get_member a members.0 >>= (λ x. option_map (λ y. (x, y)) (get_member b members.0))) two members.2 in
-    let first = step (get_member a members.0) (λ x. option_map (λ y. (x, y)) (get_member b members.0)) two test.1 in
-    let second = mapped (λ y. (first.0, y)) (get_member b members.0) two first.2 in
+    let members = bind_some (as_object d) (two_among a b) two h in
+    let test = if_some (members_len members.0 == 2) (get_member a members.0 >>= (λ x. option_map (λ y. (x, y)) (get_member b members.0))) two members.2 in
+    let first = bind_some (get_member a members.0) (λ x. option_map (λ y. (x, y)) (get_member b members.0)) two test.1 in
+    let second = map_some (λ y. (first.0, y)) (get_member b members.0) two first.2 in
     record {
       members = members.0;
       is_object = object_is d members.0 members.1;
@@ -260,25 +200,25 @@ pub two_back : (a b : List ℕ) (d x y : Data) → Two a b d x y → two_of a b 
 two_back a b d x y t =
     ap (two_of a b) t.is_object
     ∙ (ap (λ n. cond (n == 2) (get_member a t.members >>= (λ x. option_map (λ y. (x, y)) (get_member b t.members))) None) t.just_two
-    ∙ (taken (get_member a t.members) (λ x. option_map (λ y. (x, y)) (get_member b t.members)) x t.first ∙ ap (option_map (λ y. (x, y))) t.second))
+    ∙ (bind_goes (get_member a t.members) (λ x. option_map (λ y. (x, y)) (get_member b t.members)) x t.first ∙ ap (option_map (λ y. (x, y))) t.second))
 
 -- ---- packages
 
 -- a package that passes as one in which no path stands twice is itself, and passes the test
 once_is : (p q : Package) → if_once p ≡ Some q → (stand_once (paths_of p) ≡ true) × (p ≡ q)
-once_is p q h = let two = guarded (stand_once (paths_of p)) (Some p) q h in (two.0, same_some p q two.1)
+once_is p q h = let two = if_some (stand_once (paths_of p)) (Some p) q h in (two.0, same_Some p q two.1)
 
 -- a package that is read of JSON is the one of its form
 pub package_is : (version : Version) (d : Data) (p : Package) → package_of version d ≡ Some p → ArePathsProper p → IsPackage version p d
 package_is version d p h s =
-    let two = step (two_of (codes "files") (codes "folders") d) (package_among version) p h in
+    let two = bind_some (two_of (codes "files") (codes "folders") d) (package_among version) p h in
     let t = two_are (codes "files") (codes "folders") d two.0 two.1 in
-    let made = step (lists_of version two.0.0 two.0.1) if_once p two.2 in
+    let made = bind_some (lists_of version two.0.0 two.0.1) if_once p two.2 in
     let once = once_is made.0 p made.2 in
-    let lists = step (as_array two.0.0 >>= files_of version) (λ fs. option_map (λ ps. package_with fs ps) (as_array two.0.1 >>= folders_of)) made.0 made.1 in
-    let files = step (as_array two.0.0) (files_of version) lists.0 lists.1 in
-    let folders_made = mapped (λ ps. package_with lists.0 ps) (as_array two.0.1 >>= folders_of) made.0 lists.2 in
-    let folders = step (as_array two.0.1) folders_of folders_made.0 folders_made.1 in
+    let lists = bind_some (as_array two.0.0 >>= files_of version) (λ fs. option_map (λ ps. package_with fs ps) (as_array two.0.1 >>= folders_of)) made.0 made.1 in
+    let files = bind_some (as_array two.0.0) (files_of version) lists.0 lists.1 in
+    let folders_made = map_some (λ ps. package_with lists.0 ps) (as_array two.0.1 >>= folders_of) made.0 lists.2 in
+    let folders = bind_some (as_array two.0.1) folders_of folders_made.0 folders_made.1 in
     let files_same : lists.0 ≡ p.files = ap (λ q. q.files) (folders_made.2 ∙ once.1) in
     let folders_same : folders_made.0 ≡ p.folders = ap (λ q. q.folders) (folders_made.2 ∙ once.1) in
     record {
@@ -299,7 +239,7 @@ pub package_back : (version : Version) (d : Data) (p : Package) → IsPackage ve
 package_back version d p h =
     let two = two_back (codes "files") (codes "folders") d (array h.files) (array h.folders)
     (record { members = h.members; is_object = h.is_object; just_two = h.just_two; first = h.has_files; second = h.has_folders }) in
-    taken (two_of (codes "files") (codes "folders") d) (package_among version) (array h.files, array h.folders) two
+    bind_goes (two_of (codes "files") (codes "folders") d) (package_among version) (array h.files, array h.folders) two
     ∙ (ap (λ o. o >>= (λ fs. option_map (λ ps. package_with fs ps) (folders_of h.folders)) >>= if_once) (files_back version h.files p.files h.are_files)
     ∙ (ap (λ o. option_map (λ ps. package_with p.files ps) o >>= if_once) (folders_back h.folders p.folders h.are_folders)
     ∙ ap (λ t. cond t (Some p) None) h.once))
@@ -310,10 +250,10 @@ AreProper ps = AllByRecursion (λ p. ArePathsProper p.1) ps
 
 -- the packages that are read of members are those of their form
 pub packages_are : (version : Version) (members : Members) (ps : Packages) → packages_of version members ≡ Some ps → AreProper ps → ArePackages version ps members
-packages_are version no_members ps h s = subst (λ qs. ArePackages version qs no_members) (same_some [] ps h) tt
+packages_are version no_members ps h s = subst (λ qs. ArePackages version qs no_members) (same_Some [] ps h) tt
 packages_are version (member name d members) ps h s =
-    let first = step (package_of version d) (λ p. option_map (λ qs. (name, p) ∷ qs) (packages_of version members)) ps h in
-    let rest = mapped (λ qs. (name, first.0) ∷ qs) (packages_of version members) ps first.2 in
+    let first = bind_some (package_of version d) (λ p. option_map (λ qs. (name, p) ∷ qs) (packages_of version members)) ps h in
+    let rest = map_some (λ qs. (name, first.0) ∷ qs) (packages_of version members) ps first.2 in
     let both = subst AreProper (sym rest.2) s in
     subst (λ qs. ArePackages version qs (member name d members)) rest.2 (refl, package_is version d first.0 first.1 both.0, packages_are version members rest.0 rest.1 both.1)
 
@@ -327,7 +267,7 @@ packages_back version no_members [] h = refl
 packages_back version no_members (p ∷ ps) h = absurd h
 packages_back version (member name d _) [] h = absurd h
 packages_back version (member name d members) (p ∷ ps) h =
-    taken (package_of version d) (λ q. option_map (λ qs. (name, q) ∷ qs) (packages_of version members)) p.1 (package_back version d p.1 h.1)
+    bind_goes (package_of version d) (λ q. option_map (λ qs. (name, q) ∷ qs) (packages_of version members)) p.1 (package_back version d p.1 h.1)
     ∙ (ap (option_map (λ qs. (name, p.1) ∷ qs)) (packages_back version members ps h.2) ∙ ap (λ q. Some (q ∷ ps)) (named name p h.0))
 
 -- ---- listings
@@ -337,20 +277,20 @@ numbered_is : (n : ℕ) (version : Version) → version_numbered n ≡ Some vers
 numbered_is n version h = at (n == 1) (n == 2) refl refl h
   where
     at : (a b : Bool) → (n == 1) ≡ a → (n == 2) ≡ b → cond a (Some First) (cond b (Some Second) None) ≡ Some version → IsVersion version (number (unsigned n))
-    at true b e f g = subst (λ v. IsVersion v (number (unsigned n))) (same_some First version g) (ap (λ m. number (unsigned m)) (eqb-true n 1 e))
-    at false true e f g = subst (λ v. IsVersion v (number (unsigned n))) (same_some Second version g) (ap (λ m. number (unsigned m)) (eqb-true n 2 f))
-    at false false e f g = absurd (no_value version g)
+    at true b e f g = subst (λ v. IsVersion v (number (unsigned n))) (same_Some First version g) (ap (λ m. number (unsigned m)) (eqb-true n 1 e))
+    at false true e f g = subst (λ v. IsVersion v (number (unsigned n))) (same_Some Second version g) (ap (λ m. number (unsigned m)) (eqb-true n 2 f))
+    at false false e f g = absurd (none-some version g)
 
 -- a version that is read of JSON is the one of its form
 pub version_is : (d : Data) (version : Version) → version_of d ≡ Some version → IsVersion version d
-version_is null version h = absurd (no_value version h)
-version_is (boolean b) version h = absurd (no_value version h)
+version_is null version h = absurd (none-some version h)
+version_is (boolean b) version h = absurd (none-some version h)
 version_is (number (unsigned n)) version h = numbered_is n version h
-version_is (number (negative z)) version h = absurd (no_value version h)
-version_is (number (float x)) version h = absurd (no_value version h)
-version_is (string s) version h = absurd (no_value version h)
-version_is (array items) version h = absurd (no_value version h)
-version_is (object _) version h = absurd (no_value version h)
+version_is (number (negative z)) version h = absurd (none-some version h)
+version_is (number (float x)) version h = absurd (none-some version h)
+version_is (string s) version h = absurd (none-some version h)
+version_is (array items) version h = absurd (none-some version h)
+version_is (object _) version h = absurd (none-some version h)
 
 -- and a version of the form is read
 pub version_back : (d : Data) (version : Version) → IsVersion version d → version_of d ≡ Some version
@@ -360,10 +300,10 @@ version_back d Second h = ap version_of h
 -- a listing that is read of JSON is the one of its form
 pub listing_is : (d : Data) (ps : Packages) → listing_of d ≡ Some ps → AreProper ps → IsListing ps d
 listing_is d ps h s =
-    let two = step (two_of (codes "version") (codes "packages") d) listing_among ps h in
+    let two = bind_some (two_of (codes "version") (codes "packages") d) listing_among ps h in
     let t = two_are (codes "version") (codes "packages") d two.0 two.1 in
-    let version = step (version_of two.0.0) (λ v. as_object two.0.1 >>= packages_of v) ps two.2 in
-    let packages = step (as_object two.0.1) (packages_of version.0) ps version.2 in
+    let version = bind_some (version_of two.0.0) (λ v. as_object two.0.1 >>= packages_of v) ps two.2 in
+    let packages = bind_some (as_object two.0.1) (packages_of version.0) ps version.2 in
     record {
       members = t.members;
       is_object = t.is_object;
@@ -382,15 +322,15 @@ pub listing_back : (d : Data) (ps : Packages) → IsListing ps d → listing_of 
 listing_back d ps h =
     let two = two_back (codes "version") (codes "packages") d h.numbered (object h.packages)
     (record { members = h.members; is_object = h.is_object; just_two = h.just_two; first = h.has_version; second = h.has_packages }) in
-    taken (two_of (codes "version") (codes "packages") d) listing_among (h.numbered, object h.packages) two
-    ∙ (taken (version_of h.numbered) (λ v. packages_of v h.packages) h.version (version_back h.numbered h.version h.is_version)
+    bind_goes (two_of (codes "version") (codes "packages") d) listing_among (h.numbered, object h.packages) two
+    ∙ (bind_goes (version_of h.numbered) (λ v. packages_of v h.packages) h.version (version_back h.numbered h.version h.is_version)
     ∙ packages_back h.version h.packages ps h.are_packages)
 
 -- ---- texts
 
 -- a text is read as one JSON only
 same_data : (bytes : List ℕ) (a b : Data) → read bytes ≡ Some a → read bytes ≡ Some b → a ≡ b
-same_data bytes a b e f = same_some a b (sym e ∙ f)
+same_data bytes a b e f = same_Some a b (sym e ∙ f)
 
 -- the listing of a text is read of the JSON that the text is read as
 pub same_listing : (bytes : List ℕ) (json : Data) (ps : Packages) → read bytes ≡ Some json → IsListingText bytes ps → listing_of json ≡ Some ps
@@ -398,11 +338,11 @@ same_listing bytes json ps e h = ap listing_of (same_data bytes json h.json e h.
 
 -- a text gives one listing only
 pub one_listing : (bytes : List ℕ) (a b : Packages) → IsListingText bytes a → IsListingText bytes b → a ≡ b
-one_listing bytes a b h k = same_some a b (sym (listing_back h.json a h.is_listing) ∙ same_listing bytes h.json b h.is_read k)
+one_listing bytes a b h k = same_Some a b (sym (listing_back h.json a h.is_listing) ∙ same_listing bytes h.json b h.is_read k)
 
 -- a text whose JSON gives no listing gives none
 pub no_listing : (bytes : List ℕ) (json : Data) → read bytes ≡ Some json → listing_of json ≡ None → (ps : Packages) → IsListingText bytes ps → ⊥
-no_listing bytes json e n ps h = no_value ps (sym n ∙ same_listing bytes json ps e h)
+no_listing bytes json e n ps h = none-some ps (sym n ∙ same_listing bytes json ps e h)
 
 -- and one whose JSON gives a listing is a text of it
 pub listing_read : (bytes : List ℕ) (json : Data) (ps : Packages) → IsUtf8 bytes → read bytes ≡ Some json → listing_of json ≡ Some ps → AreProper ps → IsListingText bytes ps

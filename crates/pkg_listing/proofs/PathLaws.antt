@@ -5,15 +5,17 @@ use Rattle.std.specs.List.{AllByRecursion}
 use Rattle.std.proofs.Math.Dec.{eqb-suc-zero}
 use Rattle.std.proofs.lemmas.Slice.Eq.{bytes_eq-Decides}
 use Rattle.std.proofs.lemmas.List.{length-append}
-use Rattle.rh_base.specs.declared.limits.TheConstants.{PATH_BYTES, PATH_SEGMENTS}
+use Rattle.rh_base.specs.declared.limits.TheConstants.{PATH_BYTES}
 use Rattle.rh_base.specs.Reading.{◌>>=◌}
 use Rattle.fs_semantics.specs.FileTree.{Path, IsBytes, IsSegment}
 use Rattle.fs_lang.specs.PathText.{Segments, IsPathText, spelled, path_text}
-use Rattle.fs_lang.specs.Reading.{with_byte, pieces, is_good, piece_of, joined, segments_of, begins_with_slash, within, path_in}
+use Rattle.fs_lang.specs.Reading.{with_byte, pieces, is_good, piece_of, segments_of, begins_with_slash, within, path_in}
 use Rattle.fs_lang.specs.Managed.{MayBeManaged}
 use Rattle.fs_lang.proofs.Bytes.{utf8_bytes}
-use Rattle.fs_lang.proofs.PathLaws.{path_found, path_again}
+use Rattle.fs_lang.proofs.PathLaws.{path_found, path_again, joined_some, within_some}
 use Rattle.pkg_listing.specs.Reading.{is_managed, if_managed, managed_path}
+use Rattle.rh_base.proofs.Options.{if_some}
+use Rattle.std.proofs.lemmas.Bool.{not-true}
 
 -- ---- the bytes of a text whose path is made of segments
 
@@ -40,12 +42,6 @@ piece_bytes (b ∷ q) k h s = at (is_good (b ∷ q)) (ap (λ v. cond v (Some [])
     at true e = let same : ◌≡◌ {A = Path} ((b ∷ q) ∷ []) k = cc in (subst (AllByRecursion IsSegment) (sym same) s).0.bytes
     at false e = cc
 
--- what is joined is one path behind the other
-parts_of : (a b : Option Path) (p : Path) → joined a b ≡ Some p → (k : Path) × (r : Path) × (a ≡ Some k) × (b ≡ Some r) × (k ++ r ≡ p)
-parts_of None b p h = cc
-parts_of (Some k) None p h = cc
-parts_of (Some k) (Some r) p h = let same : k ++ r ≡ p = cc in (k, r, refl, refl, same)
-
 -- the parts of a path of segments are of segments
 all_parts : (k r : Path) → AllByRecursion IsSegment (k ++ r) → AllByRecursion IsSegment k × AllByRecursion IsSegment r
 all_parts [] r h = (tt, h)
@@ -55,24 +51,14 @@ all_parts (s ∷ k) r h = let two = all_parts k r h.1 in ((h.0, two.0), two.1)
 pieces_bytes : (ps : List (List ℕ)) (p : Path) → segments_of ps ≡ Some p → AllByRecursion IsSegment p → AllByRecursion IsBytes ps
 pieces_bytes [] p h s = tt
 pieces_bytes (q ∷ qs) p h s =
-    let parts = parts_of (piece_of q) (segments_of qs) p h in
+    let parts = joined_some (piece_of q) (segments_of qs) p h in
     let two = all_parts parts.0 parts.1 (subst (AllByRecursion IsSegment) (sym parts.4) s) in
     (piece_bytes q parts.0 parts.2 two.0, pieces_bytes qs parts.1 parts.3 two.1)
-
--- what is there under a condition is there, and the condition holds
-guarded : {X : Type 0} (t : Bool) (o : Option X) (x : X) → cond t o None ≡ Some x → (t ≡ true) × (o ≡ Some x)
-guarded true o x h = (refl, h)
-guarded false o x h = cc
-
--- a path within the limit of segments is the one that was read
-within_some : (o : Option Path) (p : Path) → within o ≡ Some p → o ≡ Some p
-within_some None p h = cc
-within_some (Some q) p h = (guarded (nat_le (length q) PATH_SEGMENTS) (Some q) p h).1
 
 -- a path of segments that a text gives is spelled by it
 pub path_spelled : (text : List ℕ) (p : Path) → AllByRecursion IsSegment p → path_in text ≡ Some p → IsPathText text p
 path_spelled text p s h =
-    let read = within_some (segments_of (pieces text)) p (guarded (nat_le (length text) PATH_BYTES && begins_with_slash text) (within (segments_of (pieces text))) p h).1 in
+    let read = within_some (segments_of (pieces text)) p (if_some (nat_le (length text) PATH_BYTES && begins_with_slash text) (within (segments_of (pieces text))) p h).1 in
     path_found text p (text_bytes text (pieces_bytes (pieces text) p read s)) h
 
 -- ---- what is written of a path is no longer than a text of it
@@ -99,11 +85,6 @@ text_short (s ∷ p) text n h = let short = spelled_short (s ∷ p) text h.spell
 
 -- ---- paths that may be managed
 
--- where the opposite of a truth value is true it is false
-not_true : (a : Bool) → not a ≡ true → a ≡ false
-not_true true h = absurd (true≢false (sym h))
-not_true false h = refl
-
 -- texts that differ are told to
 differ : (s t : List ℕ) → (s ≡ t → ⊥) → bytes_eq s t ≡ false
 differ s t n = at (bytes_eq s t) refl
@@ -116,7 +97,7 @@ differ s t n = at (bytes_eq s t) refl
 pub managed_where : (p : Path) → (is_managed p ≡ true) ↔ MayBeManaged p
 managed_where [] = ((λ h. cc), (λ m. absurd (m.0 refl)))
 managed_where (s ∷ p) = (
-  (λ h. ((λ e. cc), (λ r. let no = not_true (bytes_eq s (codes ".rehearsal")) h in true≢false (sym ((bytes_eq-Decides s (codes ".rehearsal")).1 r) ∙ no)))),
+  (λ h. ((λ e. cc), (λ r. let no = not-true (bytes_eq s (codes ".rehearsal")) h in true≢false (sym ((bytes_eq-Decides s (codes ".rehearsal")).1 r) ∙ no)))),
   (λ m. ap not (differ s (codes ".rehearsal") m.1)),
 )
 

@@ -22,6 +22,7 @@ use Rattle.pkg_listing.specs.Reading.{pair_of, package_of, packages_of, AddsPack
 use Rattle.pkg_listing.proofs.FormLaws.{AreProper}
 use Rattle.pkg_listing.proofs.FitLaws.{goes_last}
 use Rattle.pkg_listing.proofs.SetLaws.{are_new_append}
+use Rattle.rh_base.proofs.Lists.{all_last}
 
 -- each name comes before each of the keys
 abbrev pub ComeBefore : Packages → List (String Global) → Type 0
@@ -43,11 +44,6 @@ heads k ks (q ∷ ps) h = (h.0.0, heads k ks ps h.1)
 tails : (k : String Global) (ks : List (String Global)) (ps : Packages) → ComeBefore ps (k ∷ ks) → ComeBefore ps ks
 tails k ks [] h = tt
 tails k ks (q ∷ ps) h = (h.0.1, tails k ks ps h.1)
-
--- what holds of all of a list and of one more holds of all with that one at the end
-all_last : {X : Type 0} (P : X → Type 0) (xs : List X) (x : X) → AllByRecursion P xs → P x → AllByRecursion P (xs ++ x ∷ [])
-all_last P [] x h k = (k, tt)
-all_last P (y ∷ xs) x h k = (h.0, all_last P xs x h.1 k)
 
 -- one package ahead of the rest is one behind those that were read
 by_more : (o : Option Packages) (ps : Packages) (q : List ℕ × Package) → option_map (λ more. (ps ++ q ∷ []) ++ more) o ≡ option_map (λ more. ps ++ more) (option_map (λ more. q ∷ more) o)

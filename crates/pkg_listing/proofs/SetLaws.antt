@@ -7,6 +7,9 @@ use Rattle.fs_semantics.specs.FileTree.{Path, IsSegment, path_eq, is_among}
 use Rattle.fs_lang.specs.PathText.{path_text}
 use Rattle.pp_value.specs.Keys.{value_at}
 use Rattle.pkg_listing.specs.Packages.{are_new, stand_once, with_path, AreKeyed, AreApart}
+use Rattle.std.proofs.lemmas.Bool.{and_parts, or_parts, not-true}
+use Rattle.fs_semantics.proofs.Keys.{same_bool}
+use Rattle.std.proofs.Math.Bool.{or-false}
 
 -- paths that are written alike are the same, and are compared so, as the laws of paths say
 abbrev pub SameText : Type 0
@@ -16,18 +19,12 @@ SameText = (p q : Path) → AllByRecursion IsSegment p → AllByRecursion IsSegm
 abbrev pub SamePath : Type 0
 SamePath = (p q : Path) → IsTrue (path_eq p q) ↔ (p ≡ q)
 
--- truth values that imply one another are the same
-pub agree : (a b : Bool) → (a ≡ true → b ≡ true) → (b ≡ true → a ≡ true) → a ≡ b
-agree true b f g = sym (f refl)
-agree false true f g = g refl
-agree false false f g = refl
-
 -- ---- a path by its text
 
 -- the texts of paths are told to be equal exactly where the paths are
 same_test : SameText → SamePath → (p q : Path) → AllByRecursion IsSegment p → AllByRecursion IsSegment q → bytes_eq (path_text q) (path_text p) ≡ path_eq p q
 same_test texts paths p q is_p is_q =
-    agree (bytes_eq (path_text q) (path_text p)) (path_eq p q)
+    same_bool (bytes_eq (path_text q) (path_text p)) (path_eq p q)
     (λ h. (paths p q).1 (texts p q is_p is_q (sym ((bytes_eq-Decides (path_text q) (path_text p)).0 h))))
     (λ h. (bytes_eq-Decides (path_text q) (path_text p)).1 (ap path_text (sym ((paths p q).0 h))))
 
@@ -91,52 +88,32 @@ any_append f (p ∷ ps) qs = ap (λ t. f p || t) (any_append f ps qs) ∙ sym (o
     or_assoc true b c = refl
     or_assoc false b c = refl
 
--- of a disjunction that is false both sides are false
-neither : (a b : Bool) → (a || b) ≡ false → (a ≡ false) × (b ≡ false)
-neither true b h = absurd (true≢false h)
-neither false b h = (refl, h)
-
--- a disjunction with false is its other side
-or_false : (a : Bool) → (a || false) ≡ a
-or_false true = refl
-or_false false = refl
-
--- of a conjunction that is true both sides are true
-both : (a b : Bool) → (a && b) ≡ true → (a ≡ true) × (b ≡ true)
-both true b h = (refl, h)
-both false b h = absurd (true≢false (sym h))
-
--- where the opposite of a truth value is true it is false
-not_true : (a : Bool) → not a ≡ true → a ≡ false
-not_true true h = absurd (true≢false (sym h))
-not_true false h = refl
-
 -- with one more seen, a path that is new was new before, and differs from it
 new_before : SamePath → (seen : List Path) (p : Path) (ps : List Path) → AllByRecursion (λ q. is_among q (seen ++ p ∷ []) ≡ false) ps
     → AllByRecursion (λ q. is_among q seen ≡ false) ps × AllByRecursion (λ q. p ≢ q) ps
 new_before paths seen p [] h = (tt, tt)
 new_before paths seen p (q ∷ ps) h =
-    let two = neither (is_among q seen) (path_eq q p || false) (sym (any_append (path_eq q) seen (p ∷ [])) ∙ h.0) in
+    let two = or_parts (is_among q seen) (path_eq q p || false) (sym (any_append (path_eq q) seen (p ∷ [])) ∙ h.0) in
     let rest = new_before paths seen p ps h.1 in (
       (two.0, rest.0),
-      ((λ e. true≢false (sym ((paths q p).1 (sym e)) ∙ (sym (or_false (path_eq q p)) ∙ two.1))), rest.1),
+      ((λ e. true≢false (sym ((paths q p).1 (sym e)) ∙ (sym (or-false (path_eq q p)) ∙ two.1))), rest.1),
     )
 
 -- paths that are all new are none of those seen, and differ from one another
 apart_of : SamePath → (seen ps : List Path) → are_new seen ps ≡ true → AllByRecursion (λ q. is_among q seen ≡ false) ps × AreApart ps
 apart_of paths seen [] h = (tt, tt)
 apart_of paths seen (p ∷ ps) h =
-    let two = both (not (is_among p seen)) (are_new (seen ++ p ∷ []) ps) h in
+    let two = and_parts (not (is_among p seen)) (are_new (seen ++ p ∷ []) ps) h in
     let rest = apart_of paths (seen ++ p ∷ []) ps two.1 in
     let before = new_before paths seen p ps rest.0 in
-    ((not_true (is_among p seen) two.0, before.0), (before.1, rest.1))
+    ((not-true (is_among p seen) two.0, before.0), (before.1, rest.1))
 
 -- paths that differ from one more seen are none of those seen with it
 new_behind : SamePath → (seen : List Path) (p : Path) (ps : List Path) → AllByRecursion (λ q. is_among q seen ≡ false) ps → AllByRecursion (λ q. p ≢ q) ps
     → AllByRecursion (λ q. is_among q (seen ++ p ∷ []) ≡ false) ps
 new_behind paths seen p [] h d = tt
 new_behind paths seen p (q ∷ ps) h d = (
-  any_append (path_eq q) seen (p ∷ []) ∙ ap₂ (λ a b. a || b) h.0 (or_false (path_eq q p) ∙ differ (path_eq q p) refl),
+  any_append (path_eq q) seen (p ∷ []) ∙ ap₂ (λ a b. a || b) h.0 (or-false (path_eq q p) ∙ differ (path_eq q p) refl),
   new_behind paths seen p ps h.1 d.1,
 )
   where

@@ -14,7 +14,7 @@ use Rattle.catalog_semantics.specs.declared.state.State.{State}
 use Rattle.catalog_semantics.specs.Sites.{Definition, Site, definition_of}
 use Rattle.catalog_semantics.specs.Effects.{effect_of}
 use Rattle.catalog_semantics.specs.Collecting.{matches}
-use Rattle.catalog_semantics.specs.Catalogs.{is_called_for, made_real, realized, next_due, marked, type_runs, resource_runs}
+use Rattle.catalog_semantics.specs.Catalogs.{is_called_for, made_real, realized, next_due, counted_as_run, type_runs, resource_runs}
 use Rattle.catalog_semantics.specs.Frames.{Each, Extends, IsContainerAt}
 use Rattle.catalog_semantics.proofs.Keeping.{body_keeps, statement_keeps}
 use Rattle.catalog_semantics.proofs.Extending.{extending}
@@ -22,13 +22,9 @@ use Rattle.catalog_semantics.proofs.Whole.{due_contains}
 use Rattle.pp_compile.specs.declared.looking.Looked.{Looked}
 use Rattle.pp_compile.specs.Rounds.{realized_below}
 use Rattle.pp_compile.specs.Looking.{called_by, IsLookedAt, AreLooked}
+use Rattle.pp_declaration_state.proofs.MarkLaws.{or_assoc}
 
 -- ---- some, and the others
-
--- a disjunction of three may be grouped either way
-or_assoc : (a b c : Bool) → (a || (b || c)) ≡ ((a || b) || c)
-or_assoc true b c = refl
-or_assoc false b c = refl
 
 -- one of a list passes where one of its front or of its back does
 in_two : {X : Type 0} (f : X → Bool) (n : ℕ) (xs : List X) → list_any f xs ≡ (list_any f (take n xs) || list_any f (drop n xs))
@@ -146,7 +142,7 @@ still_are looked s t grows are = record {
 -- ---- a run
 
 -- a body that only adds makes these grow
-grown : (place : ℕ) (s : State) (x : Result State Refusal) → Each (Extends (marked place s)) x → (t : State) → x ≡ Ok t → Grows s t
+grown : (place : ℕ) (s : State) (x : Result State Refusal) → Each (Extends (counted_as_run place s)) x → (t : State) → x ≡ Ok t → Grows s t
 grown place s (Ok u) h t e = subst (Grows s) (same u t e) (h.resources, (h.collectors, h.pending))
   where
     same : (u t : State) → ◌≡◌ {A = Result State Refusal} (Ok u) (Ok t) → u ≡ t
@@ -155,12 +151,12 @@ grown place s (Err e) h t k = cc
 
 -- so does the body of a defined resource that runs
 runs_grow : (site : Site) (place : ℕ) (r : Resource) (d : Option Definition) (s t : State) → IsContainerAt place s.resources → type_runs site place r d s ≡ Ok t → Grows s t
-runs_grow site place r None s t at h = subst (Grows s) (same (marked place s) t h) (begins_same s.resources, (begins_same s.collectors, begins_same s.pending))
+runs_grow site place r None s t at h = subst (Grows s) (same (counted_as_run place s) t h) (begins_same s.resources, (begins_same s.collectors, begins_same s.pending))
   where
     same : (u t : State) → ◌≡◌ {A = Result State Refusal} (Ok u) (Ok t) → u ≡ t
     same u t e = cc
 runs_grow site place r (Some d) s t at h =
-    grown place s (type_runs site place r (Some d) s) (body_keeps Extends extending (effect_of site) (statement_keeps Extends extending site) d place r defined_scope (marked place s) at) t h
+    grown place s (type_runs site place r (Some d) s) (body_keeps Extends extending (effect_of site) (statement_keeps Extends extending site) d place r defined_scope (counted_as_run place s) at) t h
 
 -- so does one that is due
 pub due_grows : (site : Site) (s : State) (x : ℕ × Resource) (t : State) → next_due s 0 s.resources ≡ Some x → resource_runs site x s ≡ Ok t → Grows s t

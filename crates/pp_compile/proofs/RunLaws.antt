@@ -1,5 +1,5 @@
 -- The body of a defined resource, from its beginning to its end.
-use Rattle.std.proofs.Common.{◌≡◌, ℕ, ◌-◌, List, [], ◌∷◌, ◌++◌, map, length, Option, Some, Result, Ok, Err, refl, sym, ap, subst, ◌∙◌, arith, length-append}
+use Rattle.std.proofs.Common.{◌≡◌, ℕ, ◌-◌, List, [], ◌∷◌, ◌++◌, map, length, Option, Result, Ok, Err, refl, sym, ap, subst, ◌∙◌, arith, length-append}
 use Rattle.std.specs.Prelude.{slice_get, option_and_then}
 use Rattle.rh_base.specs.declared.fault.Refusal.{Refusal}
 use Rattle.pp_syntax.specs.declared.tree.Stmt.{Stmt}
@@ -17,10 +17,7 @@ use Rattle.catalog_semantics.specs.Frames.{Each, Extends}
 use Rattle.catalog_semantics.proofs.Keeping.{all_keep, statement_keeps}
 use Rattle.catalog_semantics.proofs.Extending.{extending, openings_only_add}
 use Rattle.pp_declared_bodies.specs.Beginning.{body_ends}
-
--- equal results have equal states
-same_state : (s t : State) → ◌≡◌ {A = Result State Refusal} (Ok s) (Ok t) → s ≡ t
-same_state s t h = cc
+use Rattle.pp_declarations.proofs.BodyLaws.{same_state, got_last}
 
 -- ---- the whole
 
@@ -42,11 +39,6 @@ module _ (run : Stmt → Effect) (d : Definition) (place : ℕ) (r : Resource) (
   body_ended t u h k = goes_by (Ok t) h ∙ ap (λ (x : Result State Refusal). x >>= λ w. Ok (ended (record t { running = s.running }) w)) k
 
 -- ---- its scope
-
--- what goes last stands at the number of those before it
-got_last : {X : Type 0} (front : List X) (x : X) → slice_get (front ++ x ∷ []) (length front) ≡ Some x
-got_last [] x = refl
-got_last (y ∷ front) x = got_last front x
 
 -- the scope that is entered is the current one, and is one of a class or a defined resource
 inner_last : (open_ones : List ℕ) (place : ℕ) (scopes : List Scope) (scope : Scope) → place ≡ length scopes → IsInnerSort scope.sort

@@ -1,5 +1,5 @@
 -- The levels that are read are those of the form, both ways.
-use Rattle.std.proofs.Common.{◌≡◌, ◌⊎◌, inl, inr, ℕ, Bool, true, false, true≢false, cond, ◌||◌, ◌&&◌, ◌+◌, ◌<◌, List, [], ◌∷◌, ◌++◌, length, drop, get_or, append_assoc, add-one, Option, Some, None, option_map, IsUtf8, codes, bytes_eq, refl, ap, sym, ◌∙◌, subst}
+use Rattle.std.proofs.Common.{◌≡◌, ◌⊎◌, inl, inr, ℕ, Bool, true, false, cond, ◌||◌, ◌&&◌, ◌+◌, ◌<◌, List, [], ◌∷◌, ◌++◌, length, drop, get_or, append_assoc, add-one, Option, Some, None, option_map, IsUtf8, codes, bytes_eq, refl, ap, sym, ◌∙◌, subst}
 use Rattle.std.specs.Option.{option_and_then}
 use Rattle.std.proofs.lemmas.Slice.Eq.{bytes_eq-Decides}
 use Rattle.serde_json.specs.Data.{Data, null, boolean, number, string, array, object, Items, no_items, item, Members, no_members, member}
@@ -16,12 +16,11 @@ use Rattle.pp_eval.specs.Facts.{pairs_of}
 use Rattle.pp_data.specs.declared.data.Level.{Level}
 use Rattle.pp_data.specs.Form.{HasOnly, ArePairs, IsWhen, IsKeyOfLevel, IsLevel, AreLevels, IsData, AreData}
 use Rattle.pp_data.specs.Reading.{has_only, pairs_in, when_in, level_of, level_with, level_among, level_in, level_before, levels_in, levels_among, data_in}
+use Rattle.std.proofs.lemmas.Bool.{and_parts}
+use Rattle.rh_base.proofs.Options.{if_some}
+use Rattle.std.proofs.lemmas.Option.{none-some}
 
 -- ---- steps of reading
-
--- nothing isn't something
-no_value : {X : Type 0} (x : X) → None ≡ Some x → ⊥
-no_value x h = cc
 
 -- the first found something, and the second made this of it
 abbrev Step : {X Y : Type 0} → (X → Option Y) → Option X → Y → Type 0
@@ -29,7 +28,7 @@ Step {X} f o y = (x : X) × (o ≡ Some x) × (f x ≡ Some y)
 
 -- two steps that find something are such
 step : {X Y : Type 0} (f : X → Option Y) (o : Option X) (y : Y) → option_and_then f o ≡ Some y → Step f o y
-step f None y h = absurd (no_value y h)
+step f None y h = absurd (none-some y h)
 step f (Some x) y h = (x, refl, h)
 
 -- something is there, and this is its image
@@ -38,33 +37,28 @@ Mapped {X} f o y = (x : X) × (o ≡ Some x) × (f x ≡ y)
 
 -- an image that is there is one of something
 mapped : {X Y : Type 0} (f : X → Y) (o : Option X) (y : Y) → option_map f o ≡ Some y → Mapped f o y
-mapped f None y h = absurd (no_value y h)
+mapped f None y h = absurd (none-some y h)
 mapped f (Some x) y h = let same : f x ≡ y = cc in (x, refl, same)
-
--- what is found behind a test is found where the test holds
-guarded : {Y : Type 0} (t : Bool) (o : Option Y) (y : Y) → cond t o None ≡ Some y → (t ≡ true) × (o ≡ Some y)
-guarded true o y h = (refl, h)
-guarded false o y h = absurd (no_value y h)
 
 -- ---- objects and arrays
 
 -- what is read as an object is one
 object_is : (d : Data) (members : Members) → as_object d ≡ Some members → d ≡ object members
-object_is null members h = absurd (no_value members h)
-object_is (boolean b) members h = absurd (no_value members h)
-object_is (number n) members h = absurd (no_value members h)
-object_is (string s) members h = absurd (no_value members h)
-object_is (array items) members h = absurd (no_value members h)
+object_is null members h = absurd (none-some members h)
+object_is (boolean b) members h = absurd (none-some members h)
+object_is (number n) members h = absurd (none-some members h)
+object_is (string s) members h = absurd (none-some members h)
+object_is (array items) members h = absurd (none-some members h)
 object_is (object found) members h = let same : found ≡ members = cc in ap object same
 
 -- what is read as an array is one
 array_is : (d : Data) (items : Items) → as_array d ≡ Some items → d ≡ array items
-array_is null items h = absurd (no_value items h)
-array_is (boolean b) items h = absurd (no_value items h)
-array_is (number n) items h = absurd (no_value items h)
-array_is (string s) items h = absurd (no_value items h)
+array_is null items h = absurd (none-some items h)
+array_is (boolean b) items h = absurd (none-some items h)
+array_is (number n) items h = absurd (none-some items h)
+array_is (string s) items h = absurd (none-some items h)
 array_is (array found) items h = let same : found ≡ items = cc in ap array same
-array_is (object found) items h = absurd (no_value items h)
+array_is (object found) items h = absurd (none-some items h)
 
 -- a member of an object, as it is got from the value
 pub got : (key : List ℕ) (d : Data) (members : Members) → as_object d ≡ Some members → get key d ≡ get_member key members
@@ -89,16 +83,11 @@ is_one key a b (inr e) = at (bytes_eq key a) ((bytes_eq-Decides key b).1 e)
     at true h = refl
     at false h = h
 
--- where a conjunction holds both sides do
-both : (a b : Bool) → (a && b) ≡ true → (a ≡ true) × (b ≡ true)
-both true b h = (refl, h)
-both false b h = absurd (true≢false (sym h))
-
 -- an object that is told to have no other keys has none
 only : (a b : List ℕ) (IsKey : List ℕ → Type 0) → ((key : List ℕ) → (key ≡ a) ⊎ (key ≡ b) → IsKey key) → (members : Members) → has_only a b members ≡ true → HasOnly IsKey members
 only a b IsKey is no_members h = tt
 only a b IsKey is (member key d members) h =
-    let parts = both (bytes_eq key a || bytes_eq key b) (has_only a b members) h in
+    let parts = and_parts (bytes_eq key a || bytes_eq key b) (has_only a b members) h in
     (is key (one_of key a b parts.0), only a b IsKey is members parts.1)
 
 -- and one that has none is told so
@@ -134,7 +123,7 @@ level_is : (d : Data) (level : Level) → level_in d ≡ Some level → IsLevel 
 level_is d level h =
     let object_step = step level_among (as_object d) level h in
     let members = object_step.0 in
-    let keys = guarded (has_only (codes "when") (codes "values") members) _ level object_step.2 in
+    let keys = if_some (has_only (codes "when") (codes "values") members) _ level object_step.2 in
     let values_step = step (level_with (when_in (get_member (codes "when") members))) (option_and_then pairs_in (get_member (codes "values") members)) level keys.1 in
     let given_step = step pairs_in (get_member (codes "values") members) values_step.0 values_step.1 in
     let when_step = mapped (λ w. level_of w values_step.0) (when_in (get_member (codes "when") members)) level values_step.2 in
@@ -182,7 +171,7 @@ data_is : (d : Data) (levels : List Level) → data_in d ≡ Some levels → IsD
 data_is d levels h =
     let object_step = step levels_among (as_object d) levels h in
     let members = object_step.0 in
-    let keys = guarded (has_only (codes "levels") (codes "levels") members) _ levels object_step.2 in
+    let keys = if_some (has_only (codes "levels") (codes "levels") members) _ levels object_step.2 in
     let items_step = step levels_in (option_and_then as_array (get_member (codes "levels") members)) levels keys.1 in
     let array_step = step as_array (get_member (codes "levels") members) items_step.0 items_step.1 in
     record {
@@ -219,7 +208,7 @@ same_json bytes json levels is a = let same : json ≡ a.json = at json a.json (
 
 -- JSON that isn't read as class data is none
 pub not_data : (bytes : List ℕ) (json : Data) → read bytes ≡ Some json → data_in json ≡ None → (levels : List Level) → AreData bytes levels → ⊥
-not_data bytes json is none levels a = no_value levels (sym none ∙ same_json bytes json levels is a)
+not_data bytes json is none levels a = none-some levels (sym none ∙ same_json bytes json levels is a)
 
 -- the refusal of code 64 comes where the bytes are no class data
 pub refused_with : (bytes : List ℕ) (json : Data) (f : Fault) → read bytes ≡ Some json → data_in json ≡ None → IfRefused f (IsRefusal 64 0 (codes "data"))

@@ -11,17 +11,10 @@ use Rattle.pp_data.specs.declared.data.Level.{Level}
 use Rattle.pp_data.specs.Lookup.{gives_true, is_met, applies, unless_undef, value_in, first_value, lookup, IsMet, Applies, Gives, NoneGives, IsFirst, IsProperLevel}
 use Rattle.pp_value.specs.Proper.{IsProper}
 use Rattle.std.specs.Str.{bytes_eq}
+use Rattle.std.proofs.lemmas.Bool.{and_parts}
+use Rattle.std.proofs.lemmas.Option.{none-some}
 
 -- ---- what applies
-
--- where a conjunction holds both sides do
-both : (a b : Bool) → (a && b) ≡ true → (a ≡ true) × (b ≡ true)
-both true b h = (refl, h)
-both false b h = absurd (true≢false (sym h))
-
--- nothing isn't something
-no_value : {X : Type 0} (x : X) → None ≡ Some x → ⊥
-no_value x h = cc
 
 -- what is told to give true does
 is_true : (r : Result Bool Misfit) → gives_true r ≡ true → r ≡ Ok true
@@ -43,7 +36,7 @@ is_met_by facts wanted m = ap (passes (λ x. gives_true (equal_table x wanted.1)
 -- facts that are told to be met are
 all_met : (facts wants : List Pair) → list_all (is_met facts) wants ≡ true → AllByRecursion (IsMet facts) wants
 all_met facts [] h = tt
-all_met facts (w ∷ wants) h = let parts = both (is_met facts w) (list_all (is_met facts) wants) h in (met facts w parts.0, all_met facts wants parts.1)
+all_met facts (w ∷ wants) h = let parts = and_parts (is_met facts w) (list_all (is_met facts) wants) h in (met facts w parts.0, all_met facts wants parts.1)
 
 -- and those that are met are told to be
 all_met_by : (facts wants : List Pair) → AllByRecursion (IsMet facts) wants → list_all (is_met facts) wants ≡ true
@@ -94,7 +87,7 @@ not_undef : (y x : Value) → unless_undef y ≡ Some x → (y ≡ x) × (x ≢ 
 not_undef y x h = at (is_undef y) refl h
   where
     at : (t : Bool) → is_undef y ≡ t → cond t None (Some y) ≡ Some x → (y ≡ x) × (x ≢ v.Undef)
-    at true e h = absurd (no_value x h)
+    at true e h = absurd (none-some x h)
     at false e h = let same : y ≡ x = cc in (same, λ u. true≢false (sym (ap is_undef (same ∙ u)) ∙ e))
 
 -- a value other than undef stays
@@ -110,7 +103,7 @@ has_value : (key : List ℕ) (level : Level) (x : Value) → value_in key level 
 has_value key level x h = at (value_at key level.values) refl h
   where
     at : (found : Option Value) → value_at key level.values ≡ found → option_and_then unless_undef found ≡ Some x → (value_at key level.values ≡ Some x) × (x ≢ v.Undef)
-    at None e h = absurd (no_value x h)
+    at None e h = absurd (none-some x h)
     at (Some y) e h = let parts = not_undef y x h in (e ∙ ap Some parts.0, parts.1)
 
 -- what a level gives: its value where it applies
@@ -123,7 +116,7 @@ gives facts key level x h = at (applies facts level) refl h
   where
     at : (t : Bool) → applies facts level ≡ t → cond t (value_in key level) None ≡ Some x → Gives facts key level x
     at true e h = let parts = has_value key level x h in record { applies = (applies_where facts level).0 e; stands = parts.0; other = parts.1 }
-    at false e h = absurd (no_value x h)
+    at false e h = absurd (none-some x h)
 
 -- and what it gives it is told to
 is_given : (facts : List Pair) (key : List ℕ) (level : Level) (x : Value) → Gives facts key level x → given facts key level ≡ Some x
@@ -131,7 +124,7 @@ is_given facts key level x g = ap (λ t. cond t (value_in key level) None) ((app
 
 -- where it is told to give nothing, it gives none
 gives_none : (facts : List Pair) (key : List ℕ) (level : Level) → given facts key level ≡ None → (x : Value) → Gives facts key level x → ⊥
-gives_none facts key level h x g = no_value x (sym h ∙ is_given facts key level x g)
+gives_none facts key level h x g = none-some x (sym h ∙ is_given facts key level x g)
 
 -- and where it gives none, it is told so
 none_given : (facts : List Pair) (key : List ℕ) (level : Level) → ((x : Value) → Gives facts key level x → ⊥) → given facts key level ≡ None
@@ -153,7 +146,7 @@ next_level level levels facts key = at (applies facts level)
 
 -- what is looked up is given by the first level that gives one
 is_first : (levels : List Level) (facts : List Pair) (key : List ℕ) (x : Value) → lookup levels facts key ≡ Some x → IsFirst levels facts key x
-is_first [] facts key x h = absurd (no_value x h)
+is_first [] facts key x h = absurd (none-some x h)
 is_first (level ∷ levels) facts key x h = at (given facts key level) refl (sym (next_level level levels facts key) ∙ h) (is_first levels facts key x)
   where
     at : (o : Option Value) → given facts key level ≡ o → option_or o (lookup levels facts key) ≡ Some x → (lookup levels facts key ≡ Some x → IsFirst levels facts key x) → IsFirst (level ∷ levels) facts key x
@@ -183,7 +176,7 @@ none_gives (level ∷ levels) facts key h = at (given facts key level) refl (sym
   where
     at : (o : Option Value) → given facts key level ≡ o → option_or o (lookup levels facts key) ≡ None → (lookup levels facts key ≡ None → NoneGives facts key levels) → NoneGives facts key (level ∷ levels)
     at None e h later = (gives_none facts key level e, later h)
-    at (Some y) e h later = absurd (no_value y (sym h))
+    at (Some y) e h later = absurd (none-some y (sym h))
 
 -- and where none gives one, nothing is looked up
 none_found : (levels : List Level) (facts : List Pair) (key : List ℕ) → NoneGives facts key levels → lookup levels facts key ≡ None
@@ -205,7 +198,7 @@ silent (b ∷ before) behind level facts key h =
 
 -- the value of a key is proper where all values are
 key_proper : (key : List ℕ) (pairs : List Pair) (x : Value) → AllByRecursion (λ p. IsProper p.1) pairs → value_at key pairs ≡ Some x → IsProper x
-key_proper key [] x h e = absurd (no_value x e)
+key_proper key [] x h e = absurd (none-some x e)
 key_proper key (p ∷ pairs) x h e = at (bytes_eq p.0 key) (key_proper key pairs x h.1) e
   where
     same : (a b : Value) → IsProper a → ◌≡◌ {A = Option Value} (Some a) (Some b) → IsProper b
@@ -217,14 +210,14 @@ key_proper key (p ∷ pairs) x h e = at (bytes_eq p.0 key) (key_proper key pairs
 
 -- so it is without undef
 in_proper : (o : Option Value) (x : Value) → ((y : Value) → o ≡ Some y → IsProper y) → option_and_then unless_undef o ≡ Some x → IsProper x
-in_proper None x h e = absurd (no_value x e)
+in_proper None x h e = absurd (none-some x e)
 in_proper (Some y) x h e = at (is_undef y) e
   where
     same : (a b : Value) → IsProper a → ◌≡◌ {A = Option Value} (Some a) (Some b) → IsProper b
     same a b k f = let is : a ≡ b = cc in subst IsProper is k
 
     at : (t : Bool) → cond t None (Some y) ≡ Some x → IsProper x
-    at true k = absurd (no_value x k)
+    at true k = absurd (none-some x k)
     at false k = same y x (h y refl) k
 
 -- so is one of two that are
@@ -238,7 +231,7 @@ level_proper key level x h e = in_proper (value_at key level.values) x (λ y k. 
 
 -- what is looked up in proper levels is proper
 pub found_proper : (levels : List Level) (facts : List Pair) (key : List ℕ) (x : Value) → AllByRecursion IsProperLevel levels → lookup levels facts key ≡ Some x → IsProper x
-found_proper [] facts key x h e = absurd (no_value x e)
+found_proper [] facts key x h e = absurd (none-some x e)
 found_proper (level ∷ levels) facts key x h e = at (applies facts level) (found_proper levels facts key x h.1) e
   where
     at : (t : Bool) → (first_value key (filter (applies facts) levels) ≡ Some x → IsProper x) → first_value key (cond t (level ∷ filter (applies facts) levels) (filter (applies facts) levels)) ≡ Some x → IsProper x

@@ -1,5 +1,5 @@
 -- The attributes of defaults, one after the other.
-use Rattle.std.proofs.Common.{◌≡◌, ℕ, suc, ◌+◌, ◌<◌, Bool, true, false, cond, List, [], ◌∷◌, ◌++◌, length, get_or, drop, drop-cons, add-one, refl, ap, sym, ◌∙◌, subst, append_assoc, append-nil}
+use Rattle.std.proofs.Common.{◌≡◌, ℕ, ◌+◌, ◌<◌, Bool, true, false, cond, List, [], ◌∷◌, ◌++◌, refl, ap, sym, ◌∙◌, subst, append_assoc, append-nil}
 use Rattle.std.specs.Prelude.{map, Option, Some, None}
 use Rattle.pp_value.specs.declared.value.Value.{Value}
 use Rattle.pp_value.specs.Keys.{value_at, with_pair, with_pairs, HasDistinctKeys}
@@ -22,10 +22,6 @@ next_default kind d defaults pairs = by (bytes_eq d.kind kind)
     by : (t : Bool) → with_pairs pairs (cond t (d.attributes ++ defaults_of kind defaults) (defaults_of kind defaults)) ≡ with_pairs (cond t (with_pairs pairs d.attributes) pairs) (defaults_of kind defaults)
     by true = put_behind pairs d.attributes (defaults_of kind defaults)
     by false = refl
-
--- what is left begins with the one at this place
-pub drop_step : {X : Type 0} (xs : List X) (i : ℕ) (d x : X) → i < length xs → x ≡ get_or xs i d → drop i xs ≡ x ∷ drop (i + 1) xs
-drop_step xs i d x h e = drop-cons xs i d h ∙ (λ t. sym e t ∷ drop (suc i) xs) ∙ ap (λ n. x ∷ drop n xs) (sym (add-one i))
 
 -- attributes whose names are distinct are themselves, put one after the other
 pub kept : (kind : List ℕ) (defaults : List Default) → ((k : List ℕ) → HasDistinctKeys (defaults_of k defaults)) → with_pairs [] (defaults_of kind defaults) ≡ defaults_of kind defaults

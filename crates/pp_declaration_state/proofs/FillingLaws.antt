@@ -8,26 +8,26 @@ use Rattle.pp_value.specs.Values.{Pair}
 use Rattle.pp_eval.specs.Evaluating.{◌>>=◌, refusal, Refuses}
 use Rattle.catalog_semantics.specs.declared.catalog.Resource.{Resource}
 use Rattle.catalog_semantics.specs.declared.state.Default.{Default}
-use Rattle.catalog_semantics.specs.States.{filled, is_class, lacks, defaults_of, within_size, attributes_limit, size_of_resources}
+use Rattle.catalog_semantics.specs.States.{with_defaults, is_class, lacks, defaults_of, within_size, attributes_limit, size_of_resources}
 use Rattle.catalog_semantics.specs.Catalogs.{filled_behind, Catalog}
-use Rattle.catalog.specs.Adding.{changed_at, place_in_text, given, filled_at, with_resources}
+use Rattle.catalog.specs.Adding.{changed_at, place_in_text, with_attributes, filled_at, with_resources}
 use Rattle.catalog.proofs.SizeLaws.{changed_same, count_stays, place_is}
 use Rattle.pp_declaration_state.specs.Filling.{filled_one}
 
 -- a class has no defaults
-pub class_stays : (defaults : List Default) (r : Resource) → is_class r ≡ true → given [] r ≡ filled defaults r
+pub class_stays : (defaults : List Default) (r : Resource) → is_class r ≡ true → with_attributes [] r ≡ with_defaults defaults r
 class_stays defaults r h =
     ap (λ (attrs : List Pair). record r { attrs = attrs }) (append-nil r.attrs)
     ∙ sym (ap (λ t. cond t r (record r { attrs = r.attrs ++ filter (lacks r.attrs) (defaults_of r.id.kind defaults) })) h)
 
 -- any other resource has those of its type that it lacks
-pub others_are_filled : (defaults : List Default) (r : Resource) → is_class r ≡ false → given (defaults_of r.id.kind defaults) r ≡ filled defaults r
+pub others_are_filled : (defaults : List Default) (r : Resource) → is_class r ≡ false → with_attributes (defaults_of r.id.kind defaults) r ≡ with_defaults defaults r
 others_are_filled defaults r h = sym (ap (λ t. cond t r (record r { attrs = r.attrs ++ filter (lacks r.attrs) (defaults_of r.id.kind defaults) })) h)
 
 -- filling in what a resource is given is giving it its defaults
-pub filled_as : (defaults : List Default) (place : ℕ) (pairs : List Pair) (resources : List Resource) (r : Resource) → slice_get resources place ≡ Some r → given pairs r ≡ filled defaults r
+pub filled_as : (defaults : List Default) (place : ℕ) (pairs : List Pair) (resources : List Resource) (r : Resource) → slice_get resources place ≡ Some r → with_attributes pairs r ≡ with_defaults defaults r
     → filled_at place pairs resources ≡ filled_one defaults place resources
-filled_as defaults place pairs resources r h e = ap (within_size (place_in_text place resources)) (changed_same place (given pairs) (filled defaults) resources r h e)
+filled_as defaults place pairs resources r h e = ap (within_size (place_in_text place resources)) (changed_same place (with_attributes pairs) (with_defaults defaults) resources r h e)
 
 -- ---- what the catalog answers
 
@@ -55,17 +55,17 @@ refused_in c x (Err e) h = let same : e ≡ x = cc in ap (λ (y : Refusal). Err 
 -- one resource more has its defaults, where there is room
 step : (d : List Default) (front : List Resource) (i : ℕ) (all : List Resource) (r : Resource) → slice_get all i ≡ Some r
     → filled_behind d (front ++ take i all) (drop i all)
-    ≡ (within_size r.at (front ++ changed_at i (filled d) all) >>= λ _. filled_behind d (front ++ take (suc i) (changed_at i (filled d) all)) (drop (suc i) (changed_at i (filled d) all)))
+    ≡ (within_size r.at (front ++ changed_at i (with_defaults d) all) >>= λ _. filled_behind d (front ++ take (suc i) (changed_at i (with_defaults d) all)) (drop (suc i) (changed_at i (with_defaults d) all)))
 step d front i [] r h = cc
 step d front zero (q ∷ all) r h =
     let same : q ≡ r = cc in
     ap (λ p. filled_behind d p (q ∷ all)) (append-nil front)
-    ∙ ap (λ at. within_size at (front ++ filled d q ∷ all) >>= λ _. filled_behind d (front ++ filled d q ∷ []) all) (ap (λ (x : Resource). x.at) same)
+    ∙ ap (λ at. within_size at (front ++ with_defaults d q ∷ all) >>= λ _. filled_behind d (front ++ with_defaults d q ∷ []) all) (ap (λ (x : Resource). x.at) same)
 step d front (suc i) (q ∷ all) r h =
     ap (λ p. filled_behind d p (drop i all)) (sym (append_assoc front (q ∷ []) (take i all)))
     ∙ (step d (front ++ q ∷ []) i all r h
-    ∙ (λ k. within_size r.at (append_assoc front (q ∷ []) (changed_at i (filled d) all) k)
-    >>= λ _. filled_behind d (append_assoc front (q ∷ []) (take (suc i) (changed_at i (filled d) all)) k) (drop (suc i) (changed_at i (filled d) all))))
+    ∙ (λ k. within_size r.at (append_assoc front (q ∷ []) (changed_at i (with_defaults d) all) k)
+    >>= λ _. filled_behind d (append_assoc front (q ∷ []) (take (suc i) (changed_at i (with_defaults d) all)) k) (drop (suc i) (changed_at i (with_defaults d) all))))
 
 -- equal results have equal lists
 same_list : (x y : List Resource) → ◌≡◌ {A = Result (List Resource) Refusal} (Ok x) (Ok y) → x ≡ y
@@ -81,9 +81,9 @@ pub next_filled : (d : List Default) (i : ℕ) (all new : List Resource) (r : Re
     → filled_behind d (take i all) (drop i all) ≡ filled_behind d (take (i + 1) new) (drop (i + 1) new)
 next_filled d i all new r h k =
     let at = place_is i all r h in
-    let same : changed_at i (filled d) all ≡ new = within (nat_lt attributes_limit (size_of_resources (changed_at i (filled d) all))) (place_in_text i all) (changed_at i (filled d) all) new k in
+    let same : changed_at i (with_defaults d) all ≡ new = within (nat_lt attributes_limit (size_of_resources (changed_at i (with_defaults d) all))) (place_in_text i all) (changed_at i (with_defaults d) all) new k in
     step d [] i all r h
-    ∙ (ap (λ v. v >>= λ _. filled_behind d (take (suc i) (changed_at i (filled d) all)) (drop (suc i) (changed_at i (filled d) all))) (ap (λ n. within_size n (changed_at i (filled d) all)) (sym at) ∙ k)
+    ∙ (ap (λ v. v >>= λ _. filled_behind d (take (suc i) (changed_at i (with_defaults d) all)) (drop (suc i) (changed_at i (with_defaults d) all))) (ap (λ n. within_size n (changed_at i (with_defaults d) all)) (sym at) ∙ k)
     ∙ (ap (λ xs. filled_behind d (take (suc i) xs) (drop (suc i) xs)) same ∙ ap (λ n. filled_behind d (take n new) (drop n new)) (sym (add-one i))))
 
 -- where there is no room for one, all are refused
@@ -91,12 +91,12 @@ pub refused_filled : (d : List Default) (i : ℕ) (all : List Resource) (r : Res
 refused_filled d i all r x h k =
     let at = place_is i all r h in
     step d [] i all r h
-    ∙ ap (λ v. v >>= λ _. filled_behind d (take (suc i) (changed_at i (filled d) all)) (drop (suc i) (changed_at i (filled d) all))) (ap (λ n. within_size n (changed_at i (filled d) all)) (sym at) ∙ k)
+    ∙ ap (λ v. v >>= λ _. filled_behind d (take (suc i) (changed_at i (with_defaults d) all)) (drop (suc i) (changed_at i (with_defaults d) all))) (ap (λ n. within_size n (changed_at i (with_defaults d) all)) (sym at) ∙ k)
 
 -- defaults make no resource more or less
 pub count_filled : (d : List Default) (i : ℕ) (all new : List Resource) → filled_one d i all ≡ Ok new → length new ≡ length all
 count_filled d i all new k =
-    ap length (sym (within (nat_lt attributes_limit (size_of_resources (changed_at i (filled d) all))) (place_in_text i all) (changed_at i (filled d) all) new k)) ∙ count_stays i (filled d) all
+    ap length (sym (within (nat_lt attributes_limit (size_of_resources (changed_at i (with_defaults d) all))) (place_in_text i all) (changed_at i (with_defaults d) all) new k)) ∙ count_stays i (with_defaults d) all
 
 -- a place within the list has a resource
 has_item : (i : ℕ) (all : List Resource) → i < length all → (r : Resource) × (slice_get all i ≡ Some r)

@@ -2,7 +2,7 @@
 
 ghost use Rattle.std.specs.Prelude.{◌≡◌, ℕ, List, if◌then◌else◌, IfOk};
 ghost use Rattle.pp_value.specs.Keys.{HasDistinctKeys};
-ghost use Rattle.catalog_semantics.specs.States.{defaults_of, is_class, filled};
+ghost use Rattle.catalog_semantics.specs.States.{defaults_of, is_class, with_defaults};
 
 use crate::defaults::defaults_of;
 use catalog::filled as with_lacking;
@@ -20,7 +20,7 @@ pub fn is_class(r: &Resource) -> bool
 #[tactic(auto, using(crate::proofs::DefaultLaws::kept))]
 fn filled(alloc: Global, defaults: &[Default], r: Resource) -> Result<Resource, NoMemory>
     requires { (kind : List ℕ) → HasDistinctKeys (defaults_of kind defaults.now) }
-    ensures { IfOk result (λ x. x ≡ filled defaults.now r) }
+    ensures { IfOk result (λ x. x ≡ with_defaults defaults.now r) }
 {
     if is_class(&r) {
         return Ok(r);
@@ -40,7 +40,7 @@ pub fn as_added(
     r: Resource,
 ) -> Result<Resource, NoMemory>
     requires { (kind : List ℕ) → HasDistinctKeys (defaults_of kind defaults.now) }
-    ensures { IfOk result (λ x. x ≡ (if main_has_ended then filled defaults.now r else r)) }
+    ensures { IfOk result (λ x. x ≡ (if main_has_ended then with_defaults defaults.now r else r)) }
 {
     if main_has_ended {
         filled(alloc, defaults, r)

@@ -2,9 +2,9 @@
 
 ghost use Rattle.std.specs.Prelude.{◌≡◌, ◌<◌, [], length, IfOk, OnOk};
 ghost use Rattle.pp_eval.specs.Evaluating.{AnswersBy};
-ghost use Rattle.catalog_semantics.specs.States.{filled};
+ghost use Rattle.catalog_semantics.specs.States.{with_defaults};
 ghost use Rattle.catalog_semantics.specs.Catalogs.{filled_behind, main_ended};
-ghost use Rattle.catalog.specs.Adding.{given};
+ghost use Rattle.catalog.specs.Adding.{with_attributes};
 ghost use Rattle.pp_declaration_state.specs.Defaulting.{AreApart};
 ghost use Rattle.pp_declaration_state.specs.Filling.{filled_one};
 
@@ -21,7 +21,7 @@ use std::alloc::Global;
 #[tactic(auto, using(crate::proofs::DefaultLaws::kept, crate::proofs::FillingLaws::class_stays, crate::proofs::FillingLaws::others_are_filled))]
 fn pairs_for(alloc: Global, defaults: &[Default], r: &Resource) -> Result<Pairs, NoMemory>
     requires { AreApart defaults.now }
-    ensures { IfOk result (λ pairs. given pairs r.now ≡ filled defaults.now r.now) }
+    ensures { IfOk result (λ pairs. with_attributes pairs r.now ≡ with_defaults defaults.now r.now) }
 {
     if is_class(r) {
         return Ok(Pairs::new(alloc));

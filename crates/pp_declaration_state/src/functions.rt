@@ -1,7 +1,7 @@
 //! What the functions of a manifest leave in a state.
 
 ghost use Rattle.std.specs.Prelude.{◌≡◌, ◌∷◌, ◌++◌, [], map, slice_get, option_and_then, IfOk, OnOk};
-ghost use Rattle.catalog_semantics.specs.States.{place_of, wanted};
+ghost use Rattle.catalog_semantics.specs.States.{place_of, with_pending};
 ghost use Rattle.catalog_semantics.specs.Functions.{held_in, before_container};
 ghost use Rattle.pp_declaration_state.specs.Wanting.{wanted_at};
 
@@ -38,7 +38,7 @@ fn one_ref(alloc: Global, r: Ref) -> Result<Seq<Ref>, NoMemory>
 impl State {
     /// Notes references that are to be realized, all of one place.
     pub fn want_all(&mut self, at: u32, refs: &[Ref]) -> Result<(), NoMemory>
-        ensures { OnOk result (self.new ≡ wanted (map (wanted_at at) refs.now) self.old) }
+        ensures { OnOk result (self.new ≡ with_pending (map (wanted_at at) refs.now) self.old) }
     {
         push_wanted(self.alloc, at, refs, &mut self.pending)
     }

@@ -1,7 +1,7 @@
 //! What the rounds change.
 
 ghost use Rattle.std.specs.Prelude.{◌≡◌, ◌<◌, [], Some, length, slice_get, OnOk};
-ghost use Rattle.catalog_semantics.specs.Catalogs.{marked, has_run};
+ghost use Rattle.catalog_semantics.specs.Catalogs.{counted_as_run, has_run};
 ghost use Rattle.catalog.specs.Adding.{made_real, changed_at};
 
 use crate::state::State;
@@ -28,7 +28,7 @@ impl State {
 
     /// Notes that the body of the resource at a place runs.
     pub fn mark(&mut self, place: u32) -> Result<(), NoMemory>
-        ensures { OnOk result (self.new ≡ marked place self.old) }
+        ensures { OnOk result (self.new ≡ counted_as_run place self.old) }
     {
         self.ran.push(place)
     }

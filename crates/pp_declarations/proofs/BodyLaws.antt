@@ -25,20 +25,20 @@ use Rattle.catalog_semantics.specs.Effects.{effect_at, bodies_at}
 use Rattle.catalog_semantics.proofs.Statements.{body_runs_in}
 use Rattle.catalog_semantics.proofs.Extending.{blocks_only_add, openings_only_add}
 use Rattle.pp_declared_bodies.specs.Bodies.{declared_behind}
-use Rattle.pp_declared_bodies.proofs.BodyLaws.{drop_step}
 use Rattle.pp_declared_bodies.proofs.BodyLaws as declaring
 use Rattle.pp_declared_bodies.specs.Beginning.{may_begin, class_added, class_begins, body_ends}
 use Rattle.pp_declared_bodies.specs.Parents.{nearest_first, backwards, turned}
 use Rattle.pp_declared_bodies.proofs.BeginningLaws.{class_is}
 use Rattle.pp_declared_bodies.proofs.ParentLaws.{from_the_top}
 use Rattle.pp_declarations.specs.Classes.{parent_runs, parents_run}
+use Rattle.rh_base.proofs.Lists.{drop_step}
 
 -- equal results have equal states
-same_state : (s t : State) → ◌≡◌ {A = Result State Refusal} (Ok s) (Ok t) → s ≡ t
+pub same_state : (s t : State) → ◌≡◌ {A = Result State Refusal} (Ok s) (Ok t) → s ≡ t
 same_state s t h = cc
 
 -- what goes last stands at the number of those before it
-got_last : {X : Type 0} (front : List X) (x : X) → slice_get (front ++ x ∷ []) (length front) ≡ Some x
+pub got_last : {X : Type 0} (front : List X) (x : X) → slice_get (front ++ x ∷ []) (length front) ≡ Some x
 got_last [] x = refl
 got_last (y ∷ front) x = got_last front x
 

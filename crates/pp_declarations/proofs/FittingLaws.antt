@@ -17,6 +17,7 @@ use Rattle.catalog_semantics.specs.declared.room.Room.{Room}
 use Rattle.catalog_semantics.specs.Rooms.{most, depth, block_depth, has_room_for}
 use Rattle.pp_declarations.specs.Depth.{fits, arms_depth, options_depth}
 use Rattle.pp_declarations.proofs.DepthLaws.{of, in_arm, in_case_arm, arm_is, case_arm_is, depth_if, depth_unless, depth_case}
+use Rattle.pp_definitions.proofs.PlaceLaws.{below_none}
 
 -- ---- numbers
 
@@ -73,17 +74,9 @@ both_fit k m n = by_first k m n (fits k m) refl
 none_fits : (n : ℕ) → fits 0 (n + 1) ≡ false
 none_fits n = ap not (lt-ltb 0 (n + 1) (omega arith))
 
--- no number is below 0
-none_less : (k : ℕ) → nat_lt k 0 ≡ false
-none_less k = by (nat_lt k 0) refl
-  where
-    by : (t : Bool) → nat_lt k 0 ≡ t → t ≡ false
-    by true is = let less = ltb-true k 0 is in absurd (omega arith)
-    by false is = refl
-
 -- 0 fits each limit
 nothing_fits : (k : ℕ) → fits k 0 ≡ true
-nothing_fits k = ap not (none_less k)
+nothing_fits k = ap not (below_none k)
 
 -- one more fits a limit where it fits one less
 one_less : (k n : ℕ) → 0 < k → fits k (n + 1) ≡ fits (k - 1) n
@@ -194,7 +187,7 @@ no_bodies_left room body h = ap (λ n. nat_lt 0 n && nat_lt (block_depth body) r
 
 -- where no number is below 0, a conjunction with that is false
 by_bodies : (b : Bool) (n : ℕ) → (b && nat_lt n 0) ≡ false
-by_bodies true n = none_less n
+by_bodies true n = below_none n
 by_bodies false n = refl
 
 -- where nothing more may be open, there is room for none

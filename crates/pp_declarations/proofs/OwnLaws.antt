@@ -1,7 +1,6 @@
 -- The classes that run are those of the site.
 use Rattle.std.proofs.Common.{◌≡◌, ℕ, zero, suc, ◌<◌, ◌≤◌, Bool, true, false, cond, List, [], ◌∷◌, ◌++◌, map, Option, Some, None, Result, Ok, Err, refl, sym, ap, subst, ◌∙◌, arith, Bor}
 use Rattle.std.proofs.Math.Nat.{le-max_left, le-max_right}
-use Rattle.std.proofs.lemmas.Slice.Eq.{bytes_eq-Decides}
 use Rattle.std.specs.Str.{bytes_eq}
 use Rattle.std.specs.List.{AllByRecursion}
 use Rattle.rh_base.specs.declared.fault.Refusal.{Refusal}
@@ -14,6 +13,7 @@ use Rattle.pp_declared_bodies.specs.Parents.{next_by, next_parent, and_above, ne
 use Rattle.pp_declarations.specs.Classes.{IsOwn}
 use Rattle.catalog_semantics.specs.Rooms.{most, block_depth}
 use Rattle.pp_declarations.specs.Depth.{bound_of}
+use Rattle.catalog_semantics.proofs.Circles.{has_name}
 
 -- ---- how deep they are
 
@@ -48,14 +48,9 @@ named_head : (t : Bool) (c d : Definition) (name : List ℕ) (more : Option Defi
 named_head true c d name more f g h = ap (λ (e : Definition). e.name) (sym (same_one c d h)) ∙ f refl
 named_head false c d name more f g h = g h
 
--- a class that is found under a name has it
-is_named : (name : List ℕ) (classes : List Definition) (d : Definition) → definition_of name classes ≡ Some d → d.name ≡ name
-is_named name [] d h = cc
-is_named name (c ∷ classes) d h = named_head (bytes_eq c.name name) c d name (definition_of name classes) (λ e. (bytes_eq-Decides c.name name).0 e) (is_named name classes d) h
-
 -- a class that is found is one of the site
 found_own : (site : Site) (name : List ℕ) (d : Definition) → definition_of name site.classes ≡ Some d → IsOwn site d
-found_own site name d h = ap (λ n. definition_of n site.classes) (is_named name site.classes d h) ∙ h
+found_own site name d h = ap (λ n. definition_of n site.classes) (has_name name site.classes d h) ∙ h
 
 -- equal results have equal classes
 same_result : (d e : Definition) → ◌≡◌ {A = Result Definition Refusal} (Ok d) (Ok e) → d ≡ e

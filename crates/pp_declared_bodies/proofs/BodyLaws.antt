@@ -1,5 +1,5 @@
 -- One more body that is declared.
-use Rattle.std.proofs.Common.{◌≡◌, ℕ, suc, ◌+◌, ◌<◌, length, get_or, drop, drop-cons, add-one, List, [], ◌∷◌, ◌++◌, refl, sym, ap, ◌∙◌, append_assoc}
+use Rattle.std.proofs.Common.{◌≡◌, ℕ, ◌+◌, ◌<◌, List, [], ◌∷◌, ◌++◌, refl, sym, ap, ◌∙◌, append_assoc}
 use Rattle.std.specs.Prelude.{Result, Ok, Err}
 use Rattle.rh_base.specs.declared.fault.Refusal.{Refusal}
 use Rattle.pp_syntax.specs.declared.tree.Body.{Body}
@@ -52,7 +52,3 @@ module _ (declare : ℕ → List Pair → List ℕ → Effect) (refer : List ℕ
   -- so it is of one body more
   pub body_refused : (s : State) (e : Refusal) → declared_behind before (body_declared declare refer b s) ≡ Err e → declared_behind before (bodies_declared declare refer (b ∷ bodies) s) ≡ Err e
   body_refused s e h = refused_first e (body_declared declare refer b s) h
-
--- what is left begins with the one at this place
-pub drop_step : {X : Type 0} (xs : List X) (i : ℕ) (d x : X) → i < length xs → x ≡ get_or xs i d → drop i xs ≡ x ∷ drop (i + 1) xs
-drop_step xs i d x h e = drop-cons xs i d h ∙ (λ t. sym e t ∷ drop (suc i) xs) ∙ ap (λ n. x ∷ drop n xs) (sym (add-one i))

@@ -1,5 +1,5 @@
 -- Names that stand, and attributes behind them.
-use Rattle.std.proofs.Common.{◌≡◌, ℕ, suc, ◌+◌, ◌<◌, length, get_or, drop, drop-cons, add-one, Bool, true, false, cond, ◌||◌, List, [], ◌∷◌, ◌++◌, refl, sym, ap, ◌∙◌, subst, append_assoc}
+use Rattle.std.proofs.Common.{◌≡◌, ℕ, ◌+◌, ◌<◌, Bool, true, false, cond, ◌||◌, List, [], ◌∷◌, ◌++◌, refl, sym, ap, ◌∙◌, subst, append_assoc}
 use Rattle.std.specs.Prelude.{is_some, Option, Some, None, Result, Ok, Err, OnOk}
 use Rattle.std.specs.Str.{bytes_eq}
 use Rattle.std.specs.Cmp.Lexicographic.{nat_list_eq_equiv}
@@ -208,7 +208,3 @@ pub refuses_all : (s : Scoped) (names first : List (List ℕ × Bool)) (given : 
     → given_behind given (attributes_behind s (keys_of names) left) ≡ attributes_behind s (keys_of first) all → left ≡ a ∷ attrs
     → Refuses (given_behind given (attributes_behind s (keys_of names) (a ∷ attrs))) e → Refuses (attributes_behind s (keys_of first) all) e
 refuses_all s names first given a left attrs all e h k r = subst (λ (v : Result (List Pair) Refusal). Refuses v e) (ap (λ l. given_behind given (attributes_behind s (keys_of names) l)) (sym k) ∙ h) r
-
--- what is left begins with the one at this place
-pub drop_step : {X : Type 0} (xs : List X) (i : ℕ) (d x : X) → i < length xs → x ≡ get_or xs i d → drop i xs ≡ x ∷ drop (i + 1) xs
-drop_step xs i d x h e = drop-cons xs i d h ∙ (λ t. sym e t ∷ drop (suc i) xs) ∙ ap (λ n. x ∷ drop n xs) (sym (add-one i))

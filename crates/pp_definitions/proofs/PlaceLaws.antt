@@ -16,6 +16,8 @@ use Rattle.pp_definitions.specs.declared.nodes.NodeNames.{NodeNames}
 use Rattle.pp_syntax.specs.declared.tree.Stmt.{Stmt}
 use Rattle.pp_definitions.specs.Gathering.{node_gathered}
 use Rattle.pp_definitions.specs.Places.{parent_in, if_some, goes_on, AreNamed, keyed_names, noted, noted_one, noted_all, has_some}
+use Rattle.std.proofs.Math.Bool.{or-false, or-true}
+use Rattle.pp_value.proofs.LimitLaws.{or_right}
 
 -- ---- definitions
 
@@ -75,16 +77,6 @@ noted_last : (names : List (Option (List ℕ))) (name : Option (List ℕ)) → n
 noted_last names name =
     λ i. record { named = keyed_last names name i; has_default = (list_any-append (is_same_node None) names (name ∷ []) ∙ or_end (list_any (is_same_node None) names) (is_same_node None name)) i }
 
--- a disjunction with what is true is true
-or_true : (b : Bool) → (b || true) ≡ true
-or_true true = refl
-or_true false = refl
-
--- and one with what is false is its first side
-or_false : (b : Bool) → (b || false) ≡ b
-or_false true = refl
-or_false false = refl
-
 -- one more name behind those before, unless it stands twice
 abbrev new_one : ℕ → List (Option (List ℕ)) → Option (List ℕ) → Result (List (Option (List ℕ))) Refusal
 new_one at before name = cond (list_any (is_same_node name) before) (Err (stands_twice at (node_label name))) (Ok (before ++ name ∷ []))
@@ -100,14 +92,14 @@ by_name at before None = by (list_any (is_same_node None) before) refl
     by : (t : Bool) → list_any (is_same_node None) before ≡ t
         → cond t (Err (stands_twice at (codes "default"))) (Ok (record (noted before) { has_default = true })) ≡ as_noted (cond t (Err (stands_twice at (codes "default"))) (Ok (before ++ None ∷ [])))
     by true h = refl
-    by false h = ap (λ (x : NodeNames). Ok x) (sym (noted_last before None ∙ (λ i. record { named = append-nil (keyed_names before) i; has_default = or_true (list_any (is_same_node None) before) i })))
+    by false h = ap (λ (x : NodeNames). Ok x) (sym (noted_last before None ∙ (λ i. record { named = append-nil (keyed_names before) i; has_default = or-true (list_any (is_same_node None) before) i })))
 by_name at before (Some name) = by (value_at (lowered name) (keyed_names before)) refl
   where
     new_names : NodeNames
     new_names = record (noted before) { named = keyed_names before ++ (lowered name, true) ∷ [] }
 
     by : (o : Option Bool) → value_at (lowered name) (keyed_names before) ≡ o → cond (is_none o) (Ok new_names) (Err (stands_twice at name)) ≡ as_noted (new_one at before (Some name))
-    by None h = ap (λ (x : NodeNames). Ok x) (sym (noted_last before (Some name) ∙ (λ i. record { named = keyed_names before ++ (lowered name, true) ∷ []; has_default = or_false (list_any (is_same_node None) before) i })))
+    by None h = ap (λ (x : NodeNames). Ok x) (sym (noted_last before (Some name) ∙ (λ i. record { named = keyed_names before ++ (lowered name, true) ∷ []; has_default = or-false (list_any (is_same_node None) before) i })))
         ∙ ap (λ t. as_noted (cond t (Err (stands_twice at name)) (Ok (before ++ Some name ∷ [])))) (sym (noted_is name before ∙ ap is_some h))
     by (Some b) h = ap (λ t. as_noted (cond t (Err (stands_twice at name)) (Ok (before ++ Some name ∷ [])))) (sym (noted_is name before ∙ ap is_some h))
 
@@ -140,7 +132,7 @@ its_node_is site = by site.classes site.defined_types site.nodes site.node_name
 
 -- nothing behind eight tests changes them
 pub one_of_eight : (a b c d e f g h : Bool) → (a || (b || (c || (d || (e || (f || (g || h))))))) ≡ (a || (b || (c || (d || (e || (f || (g || (h || false))))))))
-one_of_eight a b c d e f g h = λ i. a || (b || (c || (d || (e || (f || (g || sym (or_false h) i))))))
+one_of_eight a b c d e f g h = λ i. a || (b || (c || (d || (e || (f || (g || sym (or-false h) i))))))
 
 -- ---- gathering
 
@@ -148,11 +140,6 @@ one_of_eight a b c d e f g h = λ i. a || (b || (c || (d || (e || (f || (g || sy
 free_by : (o : Option Definition) (b : Bool) → (not (is_none o) || b) ≡ false → o ≡ None
 free_by None b h = refl
 free_by (Some d) b h = cc
-
--- where a disjunction is false its second side is
-free_other : (a b : Bool) → (a || b) ≡ false → b ≡ false
-free_other true b h = cc
-free_other false b h = h
 
 -- what is told to be missing is
 none_is : (o : Option Definition) → not (is_none o) ≡ false → o ≡ None
@@ -165,7 +152,7 @@ free_class site name h = free_by (definition_of name site.classes) (is_defined n
 
 -- nor a defined type
 pub free_type : (site : Site) (name : List ℕ) → is_taken site name ≡ false → definition_of name site.defined_types ≡ None
-free_type site name h = none_is (definition_of name site.defined_types) (free_other (is_defined name site.classes) (is_defined name site.defined_types) h)
+free_type site name h = none_is (definition_of name site.defined_types) (or_right (is_defined name site.classes) (is_defined name site.defined_types) h)
 
 module _ (at : ℕ) (names : List (Option (List ℕ))) (body : List Stmt) (site : Site) (taken : NodeNames) (is : taken ≡ noted (node_names site.nodes)) where
   -- names are noted as they are found new
@@ -213,7 +200,7 @@ names_noted at names body nodes taken new is h =
 -- ---- inheriting
 
 -- no number is below 0
-below_none : (n : ℕ) → nat_lt n 0 ≡ false
+pub below_none : (n : ℕ) → nat_lt n 0 ≡ false
 below_none n = by (nat_lt n 0) refl
   where
     by : (t : Bool) → nat_lt n 0 ≡ t → t ≡ false

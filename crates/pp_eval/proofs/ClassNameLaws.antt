@@ -1,12 +1,12 @@
 -- Look-ups of classes.
-use Rattle.std.proofs.Common.{◌≡◌, ℕ, Bool, true, false, cond, List, [], ◌∷◌, ◌++◌, map, Some, None, refl, ap, sym, ◌∙◌, Vec, Global, bytes_eq}
+use Rattle.std.proofs.Common.{◌≡◌, ℕ, Bool, true, false, cond, List, [], ◌∷◌, ◌++◌, map, Some, None, refl, ap, ◌∙◌, Vec, Global, bytes_eq}
 use Rattle.std.specs.Map.{lookup}
 use Rattle.std.specs.Cmp.Lexicographic.{pointwise}
 use Rattle.std.specs.Prelude.{nat_eq}
-use Rattle.std.proofs.lemmas.Slice.Eq.{bytes_eq-Decides}
 use Rattle.indexmap.specs.IndexMap.{insert_entry}
 use Rattle.pp_value.specs.Texts.{lowered}
 use Rattle.pp_eval.specs.ClassNames.{place_among}
+use Rattle.pp_value.proofs.PlaceLaws.{bytes_turned}
 
 -- a class's name and its scope's place, as the code keeps them
 abbrev Entry : Type 0
@@ -15,16 +15,6 @@ Entry = Vec ℕ Global × ℕ
 -- the same as the definitions speak of it
 abbrev pub named : Entry → List ℕ × ℕ
 named e = (e.0.items, e.1)
-
--- tests that follow from one another are equal
-one_bool : (a b : Bool) → (a ≡ true → b ≡ true) → (b ≡ true → a ≡ true) → a ≡ b
-one_bool true b f g = sym (f refl)
-one_bool false true f g = g refl
-one_bool false false f g = refl
-
--- texts are compared alike in both directions
-bytes_turned : (a b : List ℕ) → bytes_eq a b ≡ bytes_eq b a
-bytes_turned a b = one_bool _ _ (λ h. (bytes_eq-Decides b a).1 (sym ((bytes_eq-Decides a b).0 h))) (λ h. (bytes_eq-Decides a b).1 (sym ((bytes_eq-Decides b a).0 h)))
 
 -- what the map of classes finds is the place of the name, ASCII case aside
 pub found : (name : List ℕ) (entries : List Entry) → lookup (λ k. bytes_eq (lowered name) k.items) entries ≡ place_among name (map (λ e. (e.0.items, e.1)) entries)

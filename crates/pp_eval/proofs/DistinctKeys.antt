@@ -15,7 +15,7 @@ use Rattle.pp_value.specs.Proper.{IsProper}
 use Rattle.pp_value.specs.Table.{equal_table, less_table, within_table, fits_word, number, add_table, subtract_table, multiply_table, negate_table, index_table}
 use Rattle.pp_eval.specs.Operations.{operation, as_value, turned}
 use Rattle.pp_eval.specs.Scoping.{Scoped, find_in}
-use Rattle.pp_eval.specs.Evaluating.{Evaluation, Evaluated, ◌>>=◌, too_large, limited, told, made, if_there}
+use Rattle.pp_eval.specs.Evaluating.{Evaluation, Evaluated, ◌>>=◌, too_large, limited, evaluation_at, made, if_there}
 use Rattle.pp_eval.specs.Evaluation.{values_in, list_at, key_of, pair_in, pairs_in, keyed_in, map_at, titles_in, refer_to, one_or_list, refer_at, longer, joined_to, truth_at, as_truth, operated, chain_from, chain_at, prefixed, prefix_at, index_at, value_of}
 use Rattle.pp_eval.proofs.EveryValue.{Each, step_each, then_each, if_each, FormsKeep, so_of_each}
 
@@ -104,7 +104,7 @@ negate_gives (v.Int n) = number_gives (neg_ℤ n)
 negate_gives _ = tt
 
 -- what a table tells is proper
-told_proper : (at : ℕ) (t : Result Value Misfit) → Gives t → Each IsProper (told at t)
+told_proper : (at : ℕ) (t : Result Value Misfit) → Gives t → Each IsProper (evaluation_at at t)
 told_proper at (Ok x) h = h
 told_proper at (Err Operand) h = tt
 told_proper at (Err Range) h = tt

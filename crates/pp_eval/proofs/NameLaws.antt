@@ -6,7 +6,7 @@ use Rattle.std.proofs.lemmas.Bool.Decides.{Decides-eqb}
 use Rattle.pp_eval.specs.Names.{is_colon, variable_in}
 
 -- a byte that is no colon fails the test
-other : (c : ℕ) (t : Bool) → (c == 58) ≡ t → c ≢ 58 → t ≡ false
+pub other : (c : ℕ) (t : Bool) → (c == 58) ≡ t → c ≢ 58 → t ≡ false
 other c true e h = absurd (h ((Decides-eqb c 58).0 e))
 other c false e h = refl
 

@@ -106,5 +106,3 @@ bound_are place old name x new (Ok done) opened h are =
     subst (λ (s : List Scope). AreScopes s opened) (sym h.1) (with_bindings_are place (bindings_at place old ++ (name, x) ∷ []) old opened are)
 bound_are place old name x new (Err fault.Again) opened h are = subst (λ (s : List Scope). AreScopes s opened) (sym h.1) are
 bound_are place old name x new (Err (fault.Memory m)) opened h are = subst (λ (s : List Scope). AreScopes s opened) (sym h.1) are
-
--- ---- the start

@@ -1,13 +1,8 @@
 -- The two colons in front of a name.
-use Rattle.std.proofs.Common.{◌≡◌, ◌≢◌, ℕ, Bool, true, false, cond, ◌&&◌, ◌==◌, List, [], ◌∷◌, Option, Some, None, MatchOption, Bor, refl, ap, sym, ◌∙◌}
-use Rattle.std.proofs.lemmas.Bool.Decides.{Decides-eqb}
+use Rattle.std.proofs.Common.{◌≡◌, ◌≢◌, ℕ, false, cond, ◌&&◌, ◌==◌, List, [], ◌∷◌, Option, Some, None, MatchOption, Bor, refl, ap, sym, ◌∙◌}
 use Rattle.pp_eval.specs.Names.{is_colon, unrooted}
 use Rattle.pp_eval.specs.References.{begins_with_colon}
-
--- a byte that is no colon fails the test
-other : (c : ℕ) (t : Bool) → (c == 58) ≡ t → c ≢ 58 → t ≡ false
-other c true e h = absurd (h ((Decides-eqb c 58).0 e))
-other c false e h = refl
+use Rattle.pp_eval.proofs.NameLaws.{other}
 
 -- where no colon stands first, none is told to
 not_first : (text : List ℕ) → ((rest : List ℕ) → text ≢ 58 ∷ rest) → begins_with_colon text ≡ false

@@ -12,7 +12,7 @@ use Rattle.pp_value.specs.Values.{exceeds_limits}
 use Rattle.pp_value.specs.Table.{negate_table, index_table}
 use Rattle.pp_eval.specs.Operations.{operation}
 use Rattle.pp_eval.specs.Scoping.{Scoped, find_in}
-use Rattle.pp_eval.specs.Evaluating.{Evaluation, Evaluated, ◌>>=◌, too_large, limited, told, made, if_there}
+use Rattle.pp_eval.specs.Evaluating.{Evaluation, Evaluated, ◌>>=◌, too_large, limited, evaluation_at, made, if_there}
 use Rattle.pp_eval.specs.Evaluation.{values_in, list_at, keyed_in, map_at, references_in, one_or_list, refer_at, shown_of, limited_text, longer, joined_to, truth_at, as_truth, operated, chain_from, chain_at, prefixed, prefix_at, index_at, value_of}
 use Rattle.pp_eval.proofs.EveryValue.{Each, step_each, then_each, if_each, FormsKeep, so_of_each}
 
@@ -98,7 +98,7 @@ abbrev pub MembersFit : Type 0
 MembersFit = (a key x : Value) → exceeds_limits a ≡ false → index_table a key ≡ Ok x → exceeds_limits x ≡ false
 
 -- what a table tells fits, if its results do
-told_within : (at : ℕ) (t : Result Value Misfit) → ((x : Value) → t ≡ Ok x → Fits x) → IsWithin (told at t)
+told_within : (at : ℕ) (t : Result Value Misfit) → ((x : Value) → t ≡ Ok x → Fits x) → IsWithin (evaluation_at at t)
 told_within at (Ok x) h = h x refl
 told_within at (Err Operand) h = tt
 told_within at (Err Range) h = tt

@@ -60,10 +60,10 @@ abbrev pub limited : ℕ → Value → Evaluation
 limited at x = if exceeds_limits x then Err (too_large at) else Ok x
 
 -- what a table names
-abbrev pub told : ℕ → Result Value Misfit → Evaluation
-told at (Ok x) = Ok x
-told at (Err Operand) = Err (no_result at)
-told at (Err Range) = Err (out_of_range at)
+abbrev pub evaluation_at : ℕ → Result Value Misfit → Evaluation
+evaluation_at at (Ok x) = Ok x
+evaluation_at at (Err Operand) = Err (no_result at)
+evaluation_at at (Err Range) = Err (out_of_range at)
 
 -- what a table names, unless it exceeds the limits
 abbrev pub made : ℕ → Result Value Misfit → Evaluation

@@ -13,7 +13,7 @@ use Rattle.pp_value.specs.Keys.{with_pairs}
 use Rattle.pp_value.specs.Values.{Pair, has_opaque}
 use Rattle.pp_value.specs.Table.{equal_table, negate_table, index_table}
 use Rattle.pp_value.specs.Shown.{shown, shown_int}
-use Rattle.pp_eval.specs.Evaluating.{Evaluation, Evaluated, ◌>>=◌, unbound, no_option, no_result, limited, told, made, if_there}
+use Rattle.pp_eval.specs.Evaluating.{Evaluation, Evaluated, ◌>>=◌, unbound, no_option, no_result, limited, evaluation_at, made, if_there}
 use Rattle.pp_eval.specs.declared.blame.Blame.{Blame}
 use Rattle.pp_eval.specs.declared.blame.Blame.TheVariants as blame
 use Rattle.pp_eval.specs.Operations.{operation, truth_of}
@@ -210,7 +210,7 @@ prefix_at at (o ∷ ops) evaluation = do
 abbrev pub indexed : ℕ → Value → Evaluation → Evaluation
 indexed at x key = do
   k ← key
-  told at (index_table x k)
+  evaluation_at at (index_table x k)
 
 -- a member of what stands before the brackets
 abbrev pub index_at : ℕ → Evaluated → Evaluated → Evaluation

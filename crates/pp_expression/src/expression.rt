@@ -1,6 +1,6 @@
 //! The parser of expressions, one function for each rule of the grammar.
 ghost use Rattle.std.specs.Prelude.{◌≡◌, ◌+◌, ◌-◌, ◌≤◌, ◌<◌, ◌||◌, drop, length, codes};
-ghost use Rattle.pp_syntax.specs.Lexing.{told, lexeme_of};
+ghost use Rattle.pp_syntax.specs.Lexing.{lexemes_of, lexeme_of};
 ghost use Rattle.pp_syntax.specs.declared.token.Kind.TheVariants as kind;
 ghost use Rattle.pp_readers.specs.Marks.{front_of, mark};
 ghost use Rattle.pp_readers.specs.Parsed.{Gives, Reads};
@@ -326,7 +326,7 @@ fn maybe_exprs(
     tokens: &[Token<'_>],
     from: usize,
 ) -> Read<Seq<Expr>>
-    ensures { Reads (maybe_items close.now (expr_at depth) (length (drop from (told tokens.now)) + 1)) tokens.now from result }
+    ensures { Reads (maybe_items close.now (expr_at depth) (length (drop from (lexemes_of tokens.now)) + 1)) tokens.now from result }
 {
     if let Some((_, rest)) = mark(Kind::Sign, close, tokens, from) {
         return Ok((Seq::new(alloc), rest));
@@ -366,7 +366,7 @@ fn maybe_pairs(
     from: usize,
 ) -> Read<Seq<(Expr, Expr)>>
     ensures { Reads (maybe_items (codes "}") (pair_with (expr_at depth))
-        (length (drop from (told tokens.now)) + 1)) tokens.now from result }
+        (length (drop from (lexemes_of tokens.now)) + 1)) tokens.now from result }
 {
     if let Some((_, rest)) = mark(Kind::Sign, "}", tokens, from) {
         return Ok((Seq::new(alloc), rest));

@@ -1,7 +1,7 @@
 //! The token at an index: which one it is, and which operator.
 ghost use Rattle.std.specs.Prelude.{◌≡◌, ◌+◌, ◌<◌, ◌≤◌, drop, length, IfOk, IfSome};
 ghost use Rattle.std.specs.Option.{option_map};
-ghost use Rattle.pp_syntax.specs.Lexing.{told, lexeme_of};
+ghost use Rattle.pp_syntax.specs.Lexing.{lexemes_of, lexeme_of};
 ghost use Rattle.pp_readers.specs.Marks.{front_of, first_at, mark, sign_operator, keyword_operator, operator_of, infix_at, sign_prefix, prefix_of, prefix_at, is_suffix, begins_suffix};
 ghost use Rattle.pp_readers.specs.Parsed.{Reads, Sees};
 ghost use Rattle.pp_readers.specs.Expressions.{begins_word, prefixes};
@@ -13,7 +13,7 @@ use std::alloc::Global;
 
 /// The token at this index, and the index behind it.
 pub fn front_of<'a, 't>(tokens: &'a [Token<'t>], from: usize) -> Option<(&'a Token<'t>, usize)>
-    ensures is { option_map (λ x. (lexeme_of x.0.now, drop x.1 (told tokens.now))) result ≡ front_of (drop from (told tokens.now)) }
+    ensures is { option_map (λ x. (lexeme_of x.0.now, drop x.1 (lexemes_of tokens.now))) result ≡ front_of (drop from (lexemes_of tokens.now)) }
     ensures behind { IfSome result (λ x. (x.1 ≡ from + 1) × (from < length tokens.now)) }
 {
     let token = tokens.get(from)?;
@@ -22,7 +22,7 @@ pub fn front_of<'a, 't>(tokens: &'a [Token<'t>], from: usize) -> Option<(&'a Tok
 
 /// One more than the number of tokens from this index on.
 pub fn turns(tokens: &[Token<'_>], from: usize) -> usize
-    ensures { result ≡ length (drop from (told tokens.now)) + 1 }
+    ensures { result ≡ length (drop from (lexemes_of tokens.now)) + 1 }
 {
     tokens.len().saturating_sub(from) + 1
 }
@@ -50,7 +50,7 @@ pub fn expect(kind: Kind, text: &str, tokens: &[Token<'_>], from: usize) -> Read
 
 /// Where the token at this index stands.
 pub fn first_at(tokens: &[Token<'_>], from: usize) -> u32
-    ensures { result ≡ first_at (drop from (told tokens.now)) }
+    ensures { result ≡ first_at (drop from (lexemes_of tokens.now)) }
 {
     match front_of(tokens, from) {
         Some((token, _)) => token.at,
@@ -60,7 +60,7 @@ pub fn first_at(tokens: &[Token<'_>], from: usize) -> u32
 
 /// A WORD stands at this index.
 pub fn begins_word(tokens: &[Token<'_>], from: usize) -> bool
-    ensures { result ≡ begins_word (drop from (told tokens.now)) }
+    ensures { result ≡ begins_word (drop from (lexemes_of tokens.now)) }
 {
     match front_of(tokens, from) {
         Some((token, _)) => matches!(token.kind, Kind::Word),
@@ -141,7 +141,7 @@ fn is_suffix(kind: Kind, text: &str) -> bool
 
 /// What stands at this index indexes what is in front of it, or selects by it.
 pub fn begins_suffix(tokens: &[Token<'_>], from: usize) -> bool
-    ensures { result ≡ begins_suffix (drop from (told tokens.now)) }
+    ensures { result ≡ begins_suffix (drop from (lexemes_of tokens.now)) }
 {
     match front_of(tokens, from) {
         Some((token, _)) => is_suffix(token.kind, token.text),
@@ -164,7 +164,7 @@ pub fn prefixes(
     tokens: &[Token<'_>],
     from: usize,
 ) -> Result<(Seq<Op>, usize), NoMemory>
-    ensures { IfOk result (λ x. (x.0, drop x.1 (told tokens.now)) ≡ prefixes (drop from (told tokens.now))) }
+    ensures { IfOk result (λ x. (x.0, drop x.1 (lexemes_of tokens.now)) ≡ prefixes (drop from (lexemes_of tokens.now))) }
 {
     let mut found = Seq::new(alloc);
     let mut rest = from;

@@ -1,5 +1,5 @@
 //! What the parsers of statements and of manifests call.
-ghost use Rattle.pp_syntax.specs.Lexing.{told};
+ghost use Rattle.pp_syntax.specs.Lexing.{lexemes_of};
 ghost use Rattle.pp_syntax.specs.Derivation.{IsExprAt, PostfixOf, ReferenceOf, StringOf};
 ghost use Rattle.pp_readers.specs.Parsed.{Reads, IsSpelled, IsParsed, NothingGoesOn, NoSuffixGoesOn, Anything};
 ghost use Rattle.pp_readers.specs.Expressions.{expr_at, postfix_with, reference_with, string_with};
@@ -17,8 +17,8 @@ pub fn parse_expression(
     tokens: &[Token<'_>],
     from: usize,
 ) -> Read<Expr>
-    ensures spelled { IsSpelled (IsExprAt depth) (told tokens.now) from result }
-    ensures parsed { IsParsed (IsExprAt depth) NothingGoesOn (told tokens.now) from result }
+    ensures spelled { IsSpelled (IsExprAt depth) (lexemes_of tokens.now) from result }
+    ensures parsed { IsParsed (IsExprAt depth) NothingGoesOn (lexemes_of tokens.now) from result }
     // what the reader of this rule finds, which the parsers that call this build on
     ensures reads { Reads (expr_at depth) tokens.now from result }
 {
@@ -28,8 +28,8 @@ pub fn parse_expression(
 /// The operand that begins at this index, with all indexes and selections behind it; no operator is
 /// taken.
 pub fn parse_postfix(alloc: Global, depth: usize, tokens: &[Token<'_>], from: usize) -> Read<Expr>
-    ensures spelled { IsSpelled (PostfixOf (IsExprAt depth)) (told tokens.now) from result }
-    ensures parsed { IsParsed (PostfixOf (IsExprAt depth)) NoSuffixGoesOn (told tokens.now) from result }
+    ensures spelled { IsSpelled (PostfixOf (IsExprAt depth)) (lexemes_of tokens.now) from result }
+    ensures parsed { IsParsed (PostfixOf (IsExprAt depth)) NoSuffixGoesOn (lexemes_of tokens.now) from result }
     // what the reader of this rule finds, which the parsers that call this build on
     ensures reads { Reads (postfix_with (expr_at depth)) tokens.now from result }
 {
@@ -38,8 +38,8 @@ pub fn parse_postfix(alloc: Global, depth: usize, tokens: &[Token<'_>], from: us
 
 /// The reference that begins at this index.
 pub fn parse_reference(alloc: Global, depth: usize, tokens: &[Token<'_>], from: usize) -> Read<Expr>
-    ensures spelled { IsSpelled (ReferenceOf (IsExprAt depth)) (told tokens.now) from result }
-    ensures parsed { IsParsed (ReferenceOf (IsExprAt depth)) Anything (told tokens.now) from result }
+    ensures spelled { IsSpelled (ReferenceOf (IsExprAt depth)) (lexemes_of tokens.now) from result }
+    ensures parsed { IsParsed (ReferenceOf (IsExprAt depth)) Anything (lexemes_of tokens.now) from result }
     // what the reader of this rule finds, which the parsers that call this build on
     ensures reads { Reads (reference_with (expr_at depth)) tokens.now from result }
 {
@@ -48,8 +48,8 @@ pub fn parse_reference(alloc: Global, depth: usize, tokens: &[Token<'_>], from: 
 
 /// The text in quotes that begins at this index.
 pub fn parse_string(alloc: Global, depth: usize, tokens: &[Token<'_>], from: usize) -> Read<Expr>
-    ensures spelled { IsSpelled (StringOf (IsExprAt depth)) (told tokens.now) from result }
-    ensures parsed { IsParsed (StringOf (IsExprAt depth)) Anything (told tokens.now) from result }
+    ensures spelled { IsSpelled (StringOf (IsExprAt depth)) (lexemes_of tokens.now) from result }
+    ensures parsed { IsParsed (StringOf (IsExprAt depth)) Anything (lexemes_of tokens.now) from result }
     // what the reader of this rule finds, which the parsers that call this build on
     ensures reads { Reads (string_with (expr_at depth)) tokens.now from result }
 {

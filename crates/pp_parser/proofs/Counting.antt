@@ -93,18 +93,7 @@ shaped_as kind.Tight s = indexing refl refl refl refl
 shaped_as kind.Loose s = opening refl refl refl
 shaped_as kind.Hole s = opening refl refl refl
 shaped_as kind.HoleEnd s = closing refl refl refl
-shaped_as kind.Word s = plain refl refl refl
-shaped_as kind.Ref s = plain refl refl refl
-shaped_as kind.Var s = plain refl refl refl
-shaped_as kind.Int s = plain refl refl refl
-shaped_as kind.Float s = plain refl refl refl
-shaped_as kind.Sq s = plain refl refl refl
-shaped_as kind.DqOpen s = plain refl refl refl
-shaped_as kind.DqText s = plain refl refl refl
-shaped_as kind.DqVar s = plain refl refl refl
-shaped_as kind.DqClose s = plain refl refl refl
-shaped_as kind.Keyword s = plain refl refl refl
-shaped_as kind.LeftOut s = plain refl refl refl
+shaped_as k s = plain refl refl refl
 
 -- so does that of each token
 shaped : (t : Lexeme) → ShapedAs t.kind t.text

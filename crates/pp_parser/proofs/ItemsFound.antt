@@ -22,7 +22,7 @@ use Rattle.pp_readers.specs.Marks.{mark}
 use Rattle.rh_base.specs.Reading.{◌>>=◌}
 use Rattle.pp_readers.specs.Parsed.{Begins}
 use Rattle.pp_readers.specs.Expressions.{string_with}
-use Rattle.pp_readers.proofs.Tokens.{bind_some, maps, marked}
+use Rattle.pp_readers.proofs.Tokens.{maps, marked}
 use Rattle.pp_readers.proofs.Finding.{Finds, maybe_items_found}
 use Rattle.pp_readers.specs.Combining.{Reader, both, behind, begins, listed}
 use Rattle.pp_readers.specs.Names.{taken, variable_by, ref_by}
@@ -31,26 +31,12 @@ use Rattle.pp_readers.proofs.Combining.{Spells, both_found, behind_found, placed
 use Rattle.pp_readers.proofs.Names.{variable_found, ref_found}
 use Rattle.pp_parser.specs.ItemReading.{begins_type, param_of, maybe_type, default_with, param_with, params_in, params_with, word_by, parent_with, class_of, class_with, define_of, define_with, text_of, text_name, default_name, word_name, node_name_by, node_name_with, unopened, node_names_with, node_of, node_with, defaults_of, defaults_with, plain_with, class_or_plain, keyed_with, defaults_or_plain, item_by, item_with, has_token, items_with}
 use Rattle.pp_parser.proofs.TypesFound.{Perhaps, optional_found, shaped_found}
+use Rattle.rh_base.proofs.Options.{bind_some}
 
 -- a token that is a word is spelled as it
 word_is : (k : Kind) (s x : List ℕ) (at : ℕ) → word_by k s ≡ Some x → phrases.Some kind.Word x (record { kind = k; text = s; at = at } ∷ [])
 word_is kind.Word s x at h = let e : s ≡ x = cc in (at, ap (λ (u : List ℕ). record { kind = kind.Word; text = u; at = at } ∷ []) e)
-word_is kind.Ref s x at h = cc
-word_is kind.Var s x at h = cc
-word_is kind.Int s x at h = cc
-word_is kind.Float s x at h = cc
-word_is kind.Sq s x at h = cc
-word_is kind.DqOpen s x at h = cc
-word_is kind.DqText s x at h = cc
-word_is kind.DqVar s x at h = cc
-word_is kind.Hole s x at h = cc
-word_is kind.HoleEnd s x at h = cc
-word_is kind.DqClose s x at h = cc
-word_is kind.Tight s x at h = cc
-word_is kind.Loose s x at h = cc
-word_is kind.Keyword s x at h = cc
-word_is kind.Sign s x at h = cc
-word_is kind.LeftOut s x at h = cc
+word_is k s x at h = cc
 
 -- what is read as a word is spelled so
 pub word_found : Finds (taken word_by) (phrases.Some kind.Word)
@@ -172,21 +158,7 @@ module _ (e : Reader Expr) (E : Spells Expr) (finds : Finds e E) (strings : Find
   node_name_by_found : (k : Kind) → Finds (node_name_by e k) (NodeNameOf E)
   node_name_by_found kind.Keyword = default_name_found
   node_name_by_found kind.Word = word_name_found
-  node_name_by_found kind.Ref = text_name_found
-  node_name_by_found kind.Var = text_name_found
-  node_name_by_found kind.Int = text_name_found
-  node_name_by_found kind.Float = text_name_found
-  node_name_by_found kind.Sq = text_name_found
-  node_name_by_found kind.DqOpen = text_name_found
-  node_name_by_found kind.DqText = text_name_found
-  node_name_by_found kind.DqVar = text_name_found
-  node_name_by_found kind.Hole = text_name_found
-  node_name_by_found kind.HoleEnd = text_name_found
-  node_name_by_found kind.DqClose = text_name_found
-  node_name_by_found kind.Tight = text_name_found
-  node_name_by_found kind.Loose = text_name_found
-  node_name_by_found kind.Sign = text_name_found
-  node_name_by_found kind.LeftOut = text_name_found
+  node_name_by_found k = text_name_found
 
   -- what is read as the name of a node is spelled so
   node_name_found : Finds (node_name_with e) (NodeNameOf E)
@@ -251,21 +223,7 @@ module _ (e : Reader Expr) (E : Spells Expr) (finds : Finds e E) (strings : Find
   item_by_found : (k : Kind) (word : List ℕ) (v : Bool) → Finds (item_by e t s k word v) (ItemOf E S)
   item_by_found kind.Keyword word v = keyed_found word v
   item_by_found kind.Ref word v = defaults_or_plain_found v
-  item_by_found kind.Word word v = plain_found
-  item_by_found kind.Var word v = plain_found
-  item_by_found kind.Int word v = plain_found
-  item_by_found kind.Float word v = plain_found
-  item_by_found kind.Sq word v = plain_found
-  item_by_found kind.DqOpen word v = plain_found
-  item_by_found kind.DqText word v = plain_found
-  item_by_found kind.DqVar word v = plain_found
-  item_by_found kind.Hole word v = plain_found
-  item_by_found kind.HoleEnd word v = plain_found
-  item_by_found kind.DqClose word v = plain_found
-  item_by_found kind.Tight word v = plain_found
-  item_by_found kind.Loose word v = plain_found
-  item_by_found kind.Sign word v = plain_found
-  item_by_found kind.LeftOut word v = plain_found
+  item_by_found k word v = plain_found
 
   -- what is read as an item is spelled so
   item_found : Finds (item_with e t s) (ItemOf E S)

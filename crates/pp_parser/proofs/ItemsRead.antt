@@ -2,7 +2,6 @@
 use Rattle.std.proofs.Common.{◌≡◌, ◌≢◌, inl, inr, ℕ, ◌+◌, ◌<◌, true, cond, List, [], ◌∷◌, ◌++◌, length, Option, Some, None, refl, sym, ap, subst, ◌∙◌, length-append, arith}
 use Rattle.std.specs.Prelude.{codes}
 use Rattle.std.proofs.lemmas.List.{append-nil}
-use Rattle.pp_syntax.specs.declared.token.Kind.{Kind}
 use Rattle.pp_syntax.specs.declared.token.Kind.TheVariants as kind
 use Rattle.pp_syntax.specs.declared.tree.Expr.{Expr}
 use Rattle.pp_syntax.specs.declared.tree.Form.{Form}
@@ -23,7 +22,7 @@ use Rattle.rh_base.specs.Reading.{◌>>=◌}
 use Rattle.pp_readers.specs.Expressions.{string_with}
 use Rattle.pp_readers.proofs.Reading.{Fit, fits_second}
 use Rattle.pp_readers.proofs.Listing.{maybe_row_read}
-use Rattle.pp_readers.specs.Combining.{Reader, both, behind, begins, is_found, listed}
+use Rattle.pp_readers.specs.Combining.{Reader, both, behind, begins, listed}
 use Rattle.pp_readers.specs.Names.{taken, variable_by, ref_by}
 use Rattle.pp_readers.specs.Leads.{NothingFollows, BeginsStatement}
 use Rattle.pp_readers.specs.Statements.{attributes_with, block_with}
@@ -31,30 +30,21 @@ use Rattle.pp_readers.proofs.Combining.{Spells, ListedBy}
 use Rattle.pp_readers.proofs.BodiesFound.{front_nil}
 use Rattle.pp_readers.proofs.Building.{Phrase, Always, ReadsBefore, split, mark_here, both_read, behind_read, placed_read, taken_read, many_read, listed_read}
 use Rattle.pp_readers.proofs.ReadBodies.{Quiet, by_first, token_solid}
-use Rattle.pp_readers.proofs.ReadChains.{paren_closes, placeless, place_is, first_of}
+use Rattle.pp_readers.proofs.ReadChains.{placeless, place_is, first_of, ref_read, variable_read}
 use Rattle.pp_readers.proofs.Leads.{nothing_follows, leads_more, leads_some}
 use Rattle.pp_parser.specs.ItemReading.{begins_type, param_of, maybe_type, default_with, param_with, params_in, params_with, word_by, parent_with, class_of, class_with, define_of, define_with, text_of, text_name, node_name_with, unopened, node_names_with, node_of, node_with, defaults_of, defaults_with, plain_with, item_with, has_token, items_with}
 use Rattle.pp_parser.proofs.Within.{front_short, back_short, maybe_listed_within, first_within, second_within}
 use Rattle.pp_parser.proofs.TypesFound.{Perhaps}
 use Rattle.pp_parser.proofs.TypesRead.{Not, optional_read, shaped_read}
+use Rattle.pp_readers.proofs.ReadSearch.{begins_here}
+use Rattle.pp_readers.proofs.ReadBlocks.{some_long}
+use Rattle.pp_readers.proofs.Quotes.{paren_closes}
 
 -- ---- tokens
 
 -- a word is read
 word_read : ReadsBefore Always (taken word_by) (phrases.Some kind.Word)
 word_read x us rest t f q = taken_read word_by kind.Word x x us rest t refl
-
--- a type's name in capitals is read
-ref_read : ReadsBefore Always (taken ref_by) (phrases.Some kind.Ref)
-ref_read x us rest t f q = taken_read ref_by kind.Ref x x us rest t refl
-
--- a variable is read
-variable_read : ReadsBefore Always (taken variable_by) VariableOf
-variable_read x us rest t f q = taken_read variable_by kind.Var (36 ∷ x) x us rest t.0 (ap (λ v. cond v None (Some x)) t.1)
-
--- where a token stands, the test finds it
-begins_first : (k : Kind) (s : List ℕ) (B : Phrase) (us rest : List Lexeme) → (phrases.Some k s then B) us → begins k s (us ++ rest) ≡ true
-begins_first k s B us rest p = ap (λ r. is_found (mark k s r)) (split p.front p.back rest us p.whole) ∙ ap is_found (mark_here k s p.front (p.back ++ rest) p.first)
 
 -- no parent and no parameters stand first
 abbrev NoParent : Phrase
@@ -68,16 +58,11 @@ NoParams rest = Not (begins kind.Sign (codes "(")) rest
 parent_read : ReadsBefore NoParent parent_with ParentOf
 parent_read o us rest h f q =
     optional_read (begins kind.Keyword (codes "inherits")) (behind kind.Keyword (codes "inherits") (taken word_by)) (λ name. Keyword (codes "inherits") then phrases.Some kind.Word name) Always
-    (behind_read (taken word_by) (phrases.Some kind.Word) Always word_read kind.Keyword (codes "inherits")) (λ name us rest p. begins_first kind.Keyword (codes "inherits") (phrases.Some kind.Word name) us rest p) o us rest (perhaps o us h) f tt q
+    (behind_read (taken word_by) (phrases.Some kind.Word) Always word_read kind.Keyword (codes "inherits")) (λ name us rest p. begins_here kind.Keyword (codes "inherits") (phrases.Some kind.Word name) us rest p) o us rest (perhaps o us h) f tt q
   where
     perhaps : (o : Option (List ℕ)) (us : List Lexeme) → ParentOf o us → Perhaps (λ name. Keyword (codes "inherits") then phrases.Some kind.Word name) o us
     perhaps None us n = n
     perhaps (Some name) us p = p
-
--- at least one token
-long : (us : List Lexeme) → us ≢ [] → 0 < length us
-long [] n = absurd (n refl)
-long (t ∷ us) n = omega arith
 
 -- lists of fewer tokens than this
 abbrev Short : ℕ → {X : Type 0} → Spells X → Spells X
@@ -99,7 +84,7 @@ module _ (n : ℕ) (e : Reader Expr) (E : Spells Expr) (reads : ReadsBefore Quie
   default_read : ReadsBefore EndsParam (default_with e) (DefaultOf E)
   default_read o us rest h f q =
       optional_read (begins kind.Sign (codes "=")) (behind kind.Sign (codes "=") e) (λ v. Sign (codes "=") then E v) Quiet (behind_read e E Quiet reads kind.Sign (codes "="))
-      (λ v us rest p. begins_first kind.Sign (codes "=") (E v) us rest p) o us rest (perhaps o us h) f q.0 q.1
+      (λ v us rest p. begins_here kind.Sign (codes "=") (E v) us rest p) o us rest (perhaps o us h) f q.0 q.1
     where
       perhaps : (o : Option Expr) (us : List Lexeme) → DefaultOf E o us → Perhaps (λ v. Sign (codes "=") then E v) o us
       perhaps None us n = n
@@ -153,12 +138,12 @@ module _ (n : ℕ) (e : Reader Expr) (E : Spells Expr) (reads : ReadsBefore Quie
       ap (behind kind.Sign (codes "(") (params_in e t)) (split h.front h.back rest us h.whole)
       ∙ ap (λ r. r >>= λ o. params_in e t o.1) (mark_here kind.Sign (codes "(") h.front (h.back ++ rest) h.first)
       ∙ maybe_row_read (codes ")") paren_closes (param_with e t) (Short n (ParamOf E)) EndsParam param_read (λ at rest. (omega arith, refl)) (λ at rest. (omega arith, refl))
-      (λ p us a. long us (param_first p us [] a.0).1) (λ p us rest a. (param_first p us rest a.0).0) ps (length (h.back ++ rest) + 1) h.back rest short (fits_second h.front h.back h.whole f) (omega (arith, length-append h.back rest))
+      (λ p us a. some_long us (param_first p us [] a.0).1) (λ p us rest a. (param_first p us rest a.0).0) ps (length (h.back ++ rest) + 1) h.back rest short (fits_second h.front h.back h.whole f) (omega (arith, length-append h.back rest))
 
   -- parameters in brackets are read
   params_there : (ps : List Param) (us rest : List Lexeme) → (Sign (codes "(") then (MaybeListed (ParamOf E) ps then Sign (codes ")"))) us → length us < n → Fit us → params_with e t (us ++ rest) ≡ Some (ps, rest)
   params_there ps us rest h l f =
-      ap (λ v. cond v (behind kind.Sign (codes "(") (params_in e t) (us ++ rest)) (Some ([], us ++ rest))) (begins_first kind.Sign (codes "(") (MaybeListed (ParamOf E) ps then Sign (codes ")")) us rest h)
+      ap (λ v. cond v (behind kind.Sign (codes "(") (params_in e t) (us ++ rest)) (Some ([], us ++ rest))) (begins_here kind.Sign (codes "(") (MaybeListed (ParamOf E) ps then Sign (codes ")")) us rest h)
       ∙ params_behind ps us rest h l f
 
   -- parameters in brackets, or nothing, are read

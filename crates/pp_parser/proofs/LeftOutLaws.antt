@@ -25,22 +25,7 @@ text_test a b h = (bytes_eq-Decides a b).1 h
 -- a kind that is told to be that of signs is
 sign_is : (k : Kind) → is_sign k ≡ true → k ≡ kind.Sign
 sign_is kind.Sign h = refl
-sign_is kind.Word h = cc
-sign_is kind.Ref h = cc
-sign_is kind.Var h = cc
-sign_is kind.Int h = cc
-sign_is kind.Float h = cc
-sign_is kind.Sq h = cc
-sign_is kind.DqOpen h = cc
-sign_is kind.DqText h = cc
-sign_is kind.DqVar h = cc
-sign_is kind.Hole h = cc
-sign_is kind.HoleEnd h = cc
-sign_is kind.DqClose h = cc
-sign_is kind.Tight h = cc
-sign_is kind.Loose h = cc
-sign_is kind.Keyword h = cc
-sign_is kind.LeftOut h = cc
+sign_is k h = cc
 
 -- where the test says that a sign begins, it does
 pub begins_tells : (text : List ℕ) (tokens : List Lexeme) → begins_with text tokens ≡ true → BeginsWith text tokens
@@ -77,22 +62,7 @@ names_tell kind.Keyword text h = (
     ]
   ],
 )
-names_tell kind.Sign text h = cc
-names_tell kind.Word text h = cc
-names_tell kind.Ref text h = cc
-names_tell kind.Var text h = cc
-names_tell kind.Int text h = cc
-names_tell kind.Float text h = cc
-names_tell kind.Sq text h = cc
-names_tell kind.DqOpen text h = cc
-names_tell kind.DqText text h = cc
-names_tell kind.DqVar text h = cc
-names_tell kind.Hole text h = cc
-names_tell kind.HoleEnd text h = cc
-names_tell kind.DqClose text h = cc
-names_tell kind.Tight text h = cc
-names_tell kind.Loose text h = cc
-names_tell kind.LeftOut text h = cc
+names_tell k text h = cc
 
 -- and where it is, the test says so
 names_test : (k : Kind) (text : List ℕ) → k ≡ kind.Keyword → (text ≡ codes "class") ⊎ (text ≡ codes "define") → names_by k text ≡ true
@@ -139,19 +109,7 @@ by_kind kind.LeftOut before t behind e h = sign e
 by_kind kind.Float before t behind e h = float e
 by_kind kind.Sign before t behind e h = splat_tells before t behind e h
 by_kind kind.Word before t behind e h = function_tells before t behind e h
-by_kind kind.Ref before t behind e h = cc
-by_kind kind.Var before t behind e h = cc
-by_kind kind.Int before t behind e h = cc
-by_kind kind.Sq before t behind e h = cc
-by_kind kind.DqOpen before t behind e h = cc
-by_kind kind.DqText before t behind e h = cc
-by_kind kind.DqVar before t behind e h = cc
-by_kind kind.Hole before t behind e h = cc
-by_kind kind.HoleEnd before t behind e h = cc
-by_kind kind.DqClose before t behind e h = cc
-by_kind kind.Tight before t behind e h = cc
-by_kind kind.Loose before t behind e h = cc
-by_kind kind.Keyword before t behind e h = cc
+by_kind k before t behind e h = cc
 
 -- a token that is told to be left out is
 tells : (before : List Lexeme) (t : Lexeme) (behind : List Lexeme) → is_left_out (folded names_follow false before) t behind ≡ true → Out before t behind

@@ -11,7 +11,7 @@ use Rattle.std.proofs.Math.Seq.{drop-cons}
 use Rattle.std.proofs.lemmas.Bool.{le-ltb}
 use Rattle.pp_syntax.specs.declared.token.Token.{Token}
 use Rattle.pp_syntax.specs.Tokens.{Lexeme}
-use Rattle.pp_syntax.specs.Lexing.{told, lexeme_of}
+use Rattle.pp_syntax.specs.Lexing.{lexemes_of, lexeme_of}
 use Rattle.pp_parser.specs.Scanning.{first_too_deep}
 use Rattle.std.proofs.lemmas.List.{length-reverse}
 
@@ -53,12 +53,12 @@ behind_below n Other k h = record { run = omega arith; row = omega arith; asked 
 
 -- A token that isn't too deep is passed.
 pub passes : (n next : Nesting) (tokens : List Token) (i : ℕ) (d : Token) (s : Shape) → i < length tokens → s ≡ shape_of (get_or tokens i d).kind (get_or tokens i d).text.now → depth_of n s ≤ 64 → next ≡ behind_shape n s
-    → first_too_deep next (told (drop (i + 1) tokens)) ≡ first_too_deep n (told (drop i tokens))
+    → first_too_deep next (lexemes_of (drop (i + 1) tokens)) ≡ first_too_deep n (lexemes_of (drop i tokens))
 passes n next tokens i d s inside is shallow behind_is =
     let t : Token = get_or tokens i d in
-    let rest : List Lexeme = told (drop (i + 1) tokens) in
+    let rest : List Lexeme = lexemes_of (drop (i + 1) tokens) in
     let all : drop i tokens ≡ t ∷ drop (i + 1) tokens = drop-cons tokens i d inside ∙ ap (λ k. t ∷ drop k tokens) (sym (add-one i)) in
     let test : nat_lt 64 (depth_of n (shape_of t.kind t.text.now)) ≡ false = le-ltb 64 (depth_of n (shape_of t.kind t.text.now)) (subst (λ (u : Shape). depth_of n u ≤ 64) is shallow) in
     let next_is : next ≡ behind_shape n (shape_of t.kind t.text.now) = behind_is ∙ ap (behind_shape n) is in
     ap (λ (m : Nesting). first_too_deep m rest) next_is
-    ∙ sym (ap (λ (l : List Token). first_too_deep n (told l)) all ∙ ap (λ v. cond v (Some (lexeme_of t)) (first_too_deep (behind_shape n (shape_of t.kind t.text.now)) rest)) test)
+    ∙ sym (ap (λ (l : List Token). first_too_deep n (lexemes_of l)) all ∙ ap (λ v. cond v (Some (lexeme_of t)) (first_too_deep (behind_shape n (shape_of t.kind t.text.now)) rest)) test)

@@ -17,7 +17,7 @@ use Rattle.pp_syntax.specs.declared.tree.Manifest.{Manifest}
 use Rattle.pp_syntax.specs.Opened.{Ending, in_hole}
 use Rattle.pp_syntax.specs.Tokens.{Lexeme, int_value}
 use Rattle.pp_syntax.specs.Spelling.{Reads, ends, gap, token, stuck, NumberStands, kind_at, bracket_kind}
-use Rattle.pp_syntax.specs.Lexing.{told, lexeme_of}
+use Rattle.pp_syntax.specs.Lexing.{lexemes_of, lexeme_of}
 use Rattle.pp_syntax.specs.LeftOut.{IsNowhere, IsLeftOut}
 use Rattle.pp_syntax.specs.Depth.{IsTooDeep}
 use Rattle.pp_syntax.specs.Statements.{IsManifest}
@@ -25,13 +25,13 @@ use Rattle.pp_readers.specs.Marks.{Found}
 use Rattle.rh_base.specs.Reading.{◌>>=◌}
 use Rattle.pp_readers.specs.Parsed.{NumbersFit, Fails}
 use Rattle.pp_readers.specs.Expressions.{with_first}
-use Rattle.pp_readers.proofs.Tokens.{bind_some}
 use Rattle.pp_readers.proofs.Finding.{with_first_some}
 use Rattle.pp_readers.specs.Combining.{Reader, many}
 use Rattle.pp_parser.specs.ItemReading.{has_token, items_at}
 use Rattle.pp_parser.specs.Refusing.{AreLexed, RefusesSyntax, IsParseRefusal}
 use Rattle.pp_parser.proofs.ItemsWhole.{items_at_found, items_at_read}
 use Rattle.pp_parser.proofs.WithinStatements.{bounded, unbounded}
+use Rattle.rh_base.proofs.Options.{bind_some}
 
 -- ---- the numbers of tokens that a text spells fit
 
@@ -50,21 +50,7 @@ by_bracket p s h = by_tests (bytes_eq s (codes "[")) p.tight (bytes_eq s (codes 
 number_fits : (p : Place) (k : Kind) (s rest : List ℕ) → NumberStands k s rest → kind_at p k s ≡ kind.Int → int_value s < 2 ^ 63
 number_fits p kind.Int s rest n h = n.0
 number_fits p kind.Sign s rest n h = absurd (by_bracket p s h)
-number_fits p kind.Word s rest n h = cc
-number_fits p kind.Ref s rest n h = cc
-number_fits p kind.Var s rest n h = cc
-number_fits p kind.Float s rest n h = cc
-number_fits p kind.Sq s rest n h = cc
-number_fits p kind.DqOpen s rest n h = cc
-number_fits p kind.DqText s rest n h = cc
-number_fits p kind.DqVar s rest n h = cc
-number_fits p kind.Hole s rest n h = cc
-number_fits p kind.HoleEnd s rest n h = cc
-number_fits p kind.DqClose s rest n h = cc
-number_fits p kind.Tight s rest n h = cc
-number_fits p kind.Loose s rest n h = cc
-number_fits p kind.Keyword s rest n h = cc
-number_fits p kind.LeftOut s rest n h = cc
+number_fits p k s rest n h = cc
 
 -- so does each number that is read
 pub numbers_fit : {p : Place} {text : List ℕ} {tokens : List Lexeme} {e : Ending} → Reads p text tokens e → NumbersFit tokens
@@ -130,11 +116,11 @@ pub one_tree : (m n : Manifest) (ts : List Lexeme) → AreLexed ts → IsManifes
 one_tree m n ts l h k = same_tree ts [] (length ts + 1) m.items n refl (lexed_fit ts l) (tree_read ts (length ts + 1) m refl (lexed_fit ts l) h) k
 
 -- the definitions speak of as many tokens as the code has
-pub told_length : (tokens : List Token) → length (told tokens) ≡ length tokens
+pub told_length : (tokens : List Token) → length (lexemes_of tokens) ≡ length tokens
 told_length tokens = length-map tokens lexeme_of
 
 -- and of as many turns
-pub turns_are : (tokens : List Token) → length tokens + 1 ≡ length (told tokens) + 1
+pub turns_are : (tokens : List Token) → length tokens + 1 ≡ length (lexemes_of tokens) + 1
 turns_are tokens = ap (λ n. n + 1) (sym (told_length tokens))
 
 -- nothing was read

@@ -16,7 +16,7 @@ use Rattle.pp_syntax.specs.Statements as grammar
 use Rattle.rh_base.specs.Reading.{◌>>=◌}
 use Rattle.pp_readers.specs.Values.{number}
 use Rattle.pp_readers.specs.Parsed.{Begins}
-use Rattle.pp_readers.proofs.Tokens.{bind_some, maps}
+use Rattle.pp_readers.proofs.Tokens.{maps}
 use Rattle.pp_readers.proofs.Finding.{Finds, nothing, items_found}
 use Rattle.pp_readers.proofs.Operands.{sq_found}
 use Rattle.pp_readers.specs.Combining.{Reader, both, behind, before, begins}
@@ -25,6 +25,7 @@ use Rattle.pp_readers.proofs.Combining.{Spells, both_found, behind_found, before
 use Rattle.pp_parser.specs.TypeReading.{optional, shaped, type_word, type_word_by, number_by, quoted_by, upper_with, bounds_with, maybe_bounds, text_type, number_type, member_with, maybe_member, members_in, members_with, texts_in, texts_with, type_by, type_with, type_at}
 use Rattle.pp_parser.specs.declared.words.TypeWord.{TypeWord}
 use Rattle.pp_parser.specs.declared.words.TypeWord.TheVariants as word
+use Rattle.rh_base.proofs.Options.{bind_some}
 
 -- a token by itself
 abbrev token : Kind → List ℕ → ℕ → List Lexeme
@@ -95,22 +96,7 @@ IsWord w = phrases.Some kind.Ref (word_text w)
 -- a token that names a type is spelled as its name
 word_is : (k : Kind) (s : List ℕ) (x : TypeWord) (at : ℕ) → type_word_by k s ≡ Some x → IsWord x (token k s at)
 word_is kind.Ref s x at h = (at, ap (λ (u : List ℕ). token kind.Ref u at) (type_word_is s x h))
-word_is kind.Word s x at h = cc
-word_is kind.Var s x at h = cc
-word_is kind.Int s x at h = cc
-word_is kind.Float s x at h = cc
-word_is kind.Sq s x at h = cc
-word_is kind.DqOpen s x at h = cc
-word_is kind.DqText s x at h = cc
-word_is kind.DqVar s x at h = cc
-word_is kind.Hole s x at h = cc
-word_is kind.HoleEnd s x at h = cc
-word_is kind.DqClose s x at h = cc
-word_is kind.Tight s x at h = cc
-word_is kind.Loose s x at h = cc
-word_is kind.Keyword s x at h = cc
-word_is kind.Sign s x at h = cc
-word_is kind.LeftOut s x at h = cc
+word_is k s x at h = cc
 
 -- what is read as the name of a type is spelled so
 pub word_found : Finds (taken type_word_by) IsWord
@@ -131,22 +117,7 @@ number_value s v h = by_test (nat_lt (int_value s) (2 ^ 63)) h
 -- a token that is a number is spelled as it
 number_is : (k : Kind) (s : List ℕ) (x : ℤ) (at : ℕ) → number_by k s ≡ Some x → IsNumber x (token k s at)
 number_is kind.Int s x at h = (s, (at, refl), number_value s x h)
-number_is kind.Ref s x at h = cc
-number_is kind.Word s x at h = cc
-number_is kind.Var s x at h = cc
-number_is kind.Float s x at h = cc
-number_is kind.Sq s x at h = cc
-number_is kind.DqOpen s x at h = cc
-number_is kind.DqText s x at h = cc
-number_is kind.DqVar s x at h = cc
-number_is kind.Hole s x at h = cc
-number_is kind.HoleEnd s x at h = cc
-number_is kind.DqClose s x at h = cc
-number_is kind.Tight s x at h = cc
-number_is kind.Loose s x at h = cc
-number_is kind.Keyword s x at h = cc
-number_is kind.Sign s x at h = cc
-number_is kind.LeftOut s x at h = cc
+number_is k s x at h = cc
 
 -- what is read as a number is spelled so
 pub number_found : Finds (taken number_by) IsNumber
@@ -155,22 +126,7 @@ number_found = taken_found number_by IsNumber number_is
 -- a token that is a text in single quotes is spelled as it
 quoted_is : (k : Kind) (s x : List ℕ) (at : ℕ) → quoted_by k s ≡ Some x → QuotedText x (token k s at)
 quoted_is kind.Sq s x at h = (s, (at, refl), sq_found s x h)
-quoted_is kind.Int s x at h = cc
-quoted_is kind.Ref s x at h = cc
-quoted_is kind.Word s x at h = cc
-quoted_is kind.Var s x at h = cc
-quoted_is kind.Float s x at h = cc
-quoted_is kind.DqOpen s x at h = cc
-quoted_is kind.DqText s x at h = cc
-quoted_is kind.DqVar s x at h = cc
-quoted_is kind.Hole s x at h = cc
-quoted_is kind.HoleEnd s x at h = cc
-quoted_is kind.DqClose s x at h = cc
-quoted_is kind.Tight s x at h = cc
-quoted_is kind.Loose s x at h = cc
-quoted_is kind.Keyword s x at h = cc
-quoted_is kind.Sign s x at h = cc
-quoted_is kind.LeftOut s x at h = cc
+quoted_is k s x at h = cc
 
 -- what is read as a text in single quotes is spelled so
 pub quoted_found : Finds (taken quoted_by) QuotedText

@@ -2,7 +2,6 @@
 use Rattle.std.proofs.Common.{◌≡◌, ℕ, zero, suc, ◌+◌, ◌<◌, ◌^◌, Bool, true, false, cond, List, [], ◌∷◌, ◌++◌, length, Option, Some, None, refl, sym, ap, subst, ◌∙◌, append_assoc, length-append, arith}
 use Rattle.std.specs.Prelude.{codes, ℤ, pos}
 use Rattle.std.proofs.lemmas.Bool.{lt-ltb}
-use Rattle.pp_syntax.specs.declared.token.Kind.{Kind}
 use Rattle.pp_syntax.specs.declared.token.Kind.TheVariants as kind
 use Rattle.pp_syntax.specs.declared.tree.TypeName.{TypeName}
 use Rattle.pp_syntax.specs.declared.tree.TypeName.TheVariants as type
@@ -17,10 +16,10 @@ use Rattle.pp_readers.specs.Values.{number}
 use Rattle.pp_readers.proofs.Reading.{Fit, fits_second}
 use Rattle.pp_readers.proofs.Listing.{bracket_closes, items_read}
 use Rattle.pp_readers.proofs.Quotes.{sq_read}
-use Rattle.pp_readers.specs.Combining.{Reader, both, behind, before, begins, is_found}
+use Rattle.pp_readers.specs.Combining.{Reader, both, behind, before, begins}
 use Rattle.pp_readers.specs.Names.{taken}
 use Rattle.pp_readers.proofs.Combining.{Spells}
-use Rattle.pp_readers.proofs.Building.{Phrase, Always, ReadsBefore, split, mark_here, both_read, behind_read, before_read, taken_read}
+use Rattle.pp_readers.proofs.Building.{Phrase, Always, ReadsBefore, split, both_read, behind_read, before_read, taken_read}
 use Rattle.pp_readers.proofs.ReadBodies.{Quiet, by_token}
 use Rattle.pp_parser.specs.TypeReading.{optional, shaped, type_word, type_word_by, number_by, quoted_by, upper_with, bounds_with, maybe_bounds, text_type, number_type, member_with, maybe_member, members_in, members_with, texts_in, texts_with, type_by, type_with, type_at}
 use Rattle.pp_parser.specs.declared.words.TypeWord.{TypeWord}
@@ -28,6 +27,7 @@ use Rattle.pp_parser.specs.declared.words.TypeWord.TheVariants as word
 use Rattle.pp_parser.proofs.Quiet.{tight_none}
 use Rattle.std.proofs.lemmas.List.{append-nil}
 use Rattle.pp_parser.proofs.TypesFound.{Perhaps, IsWord, word_text, IsNumber, Upper, Bounds, MaybeBounds}
+use Rattle.pp_readers.proofs.ReadSearch.{begins_here}
 
 -- ---- ways of building
 
@@ -49,10 +49,6 @@ module _ {X Y : Type 0} (h : X → Y) (f : Reader X) (A : Spells X) (F : Phrase)
   -- what is made of something is read where that is
   pub shaped_read : (x : X) (y : Y) (us rest : List Lexeme) → A x us → Fit us → F rest → h x ≡ y → shaped h f (us ++ rest) ≡ Some (y, rest)
   shaped_read x y us rest a n q e = ap (λ r. r >>= λ x. Some (h x.0, x.1)) (reads x us rest a n q) ∙ ap (λ z. Some (z, rest)) e
-
--- where a token stands, the test finds it
-begins_first : (k : Kind) (s : List ℕ) (B : Phrase) (us rest : List Lexeme) → (phrases.Some k s then B) us → begins k s (us ++ rest) ≡ true
-begins_first k s B us rest p = ap (λ r. is_found (mark k s r)) (split p.front p.back rest us p.whole) ∙ ap is_found (mark_here k s p.front (p.back ++ rest) p.first)
 
 -- no index stands first
 no_index : (rest : List Lexeme) → Quiet rest → Not (begins kind.Tight (codes "[")) rest
@@ -102,7 +98,7 @@ Closed rest = Not (begins kind.Sign (codes ",")) rest
 upper_read : ReadsBefore Closed upper_with Upper
 upper_read y us rest a f q =
     optional_read (begins kind.Sign (codes ",")) (behind kind.Sign (codes ",") (taken number_by)) (λ v. Sign (codes ",") then IsNumber v) Always
-    (behind_read (taken number_by) IsNumber Always number_read kind.Sign (codes ",")) (λ v us rest p. begins_first kind.Sign (codes ",") (IsNumber v) us rest p) y us rest a f tt q
+    (behind_read (taken number_by) IsNumber Always number_read kind.Sign (codes ",")) (λ v us rest p. begins_here kind.Sign (codes ",") (IsNumber v) us rest p) y us rest a f tt q
 
 -- bounds are read
 bounds_read : ReadsBefore Always bounds_with Bounds
@@ -114,7 +110,7 @@ bounds_read =
 maybe_bounds_read : ReadsBefore Quiet maybe_bounds MaybeBounds
 maybe_bounds_read y us rest a f q =
     optional_read (begins kind.Tight (codes "[")) (behind kind.Tight (codes "[") bounds_with) (λ b. Tight then Bounds b) Always
-    (behind_read bounds_with Bounds Always bounds_read kind.Tight (codes "[")) (λ b us rest p. begins_first kind.Tight (codes "[") (Bounds b) us rest p) y us rest a f tt (no_index rest q)
+    (behind_read bounds_with Bounds Always bounds_read kind.Tight (codes "[")) (λ b us rest p. begins_here kind.Tight (codes "[") (Bounds b) us rest p) y us rest a f tt (no_index rest q)
 
 -- a phrase with nothing behind it
 with_nothing : (A : List Lexeme → Type 0) (us : List Lexeme) → A us → (A then Nothing) us
@@ -172,7 +168,7 @@ module _ (t : Reader TypeName) (T : Spells TypeName) (reads : ReadsBefore Quiet 
   -- so is a type in brackets, or nothing
   maybe_member_read : ReadsBefore Quiet (maybe_member t) (Perhaps (λ y. Bracketed (T y)))
   maybe_member_read y us rest a f q =
-      optional_read (begins kind.Tight (codes "[")) (member_with t) (λ y. Bracketed (T y)) Always member_read (λ y us rest p. begins_first kind.Tight (codes "[") (T y then Sign (codes "]")) us rest p) y us rest a f tt (no_index rest q)
+      optional_read (begins kind.Tight (codes "[")) (member_with t) (λ y. Bracketed (T y)) Always member_read (λ y us rest p. begins_here kind.Tight (codes "[") (T y then Sign (codes "]")) us rest p) y us rest a f tt (no_index rest q)
 
   -- types in brackets are read
   members_read : ReadsBefore Always (members_with t) (λ ys. Bracketed (Listed T ys))

@@ -2,7 +2,7 @@
 ghost use Rattle.std.specs.Prelude.{◌≡◌, ◌+◌, ◌<◌, ◌^◌, [], ◌∷◌, length, OnOk, IfOk};
 ghost use Rattle.std.specs.Option.{option_map};
 ghost use Rattle.pp_syntax.specs.Tokens.{is_among};
-ghost use Rattle.pp_syntax.specs.Lexing.{told, lexeme_of};
+ghost use Rattle.pp_syntax.specs.Lexing.{lexemes_of, lexeme_of};
 ghost use Rattle.pp_parser.specs.Nested.{at_start, innermost, outer_of, sign_shape, shape_of, behind_shape, depth_of};
 ghost use Rattle.pp_parser.specs.Scanning.{first_too_deep};
 
@@ -205,7 +205,7 @@ pub fn first_too_deep<'s, 't>(
     alloc: Global,
     tokens: &'s [Token<'t>],
 ) -> Result<Option<&'s Token<'t>>, NoMemory>
-    ensures { IfOk result (λ found. option_map (λ t. lexeme_of t.now) found ≡ first_too_deep at_start (told tokens.now)) }
+    ensures { IfOk result (λ found. option_map (λ t. lexeme_of t.now) found ≡ first_too_deep at_start (lexemes_of tokens.now)) }
 {
     let mut nesting = Nesting::new(alloc);
     for t in tokens {

@@ -3,7 +3,7 @@ ghost use Rattle.std.specs.Prelude.{◌≡◌, false};
 ghost use Rattle.std.specs.Option.{option_map};
 ghost use Rattle.pp_syntax.specs.Tokens.{is_among};
 ghost use Rattle.pp_syntax.specs.Statements.{functions};
-ghost use Rattle.pp_syntax.specs.Lexing.{told, lexeme_of};
+ghost use Rattle.pp_syntax.specs.Lexing.{lexemes_of, lexeme_of};
 ghost use Rattle.pp_parser.specs.Scanning.{begins_with, names_by, is_left_out, first_left_out};
 
 use pp_syntax::{Func, Kind, Token, is_among};
@@ -22,7 +22,7 @@ fn is_function(word: &str) -> bool
 
 /// The next token is this sign.
 fn begins_with(tokens: &[Token<'_>], text: &str) -> bool
-    ensures { result ≡ begins_with text.now (told tokens.now) }
+    ensures { result ≡ begins_with text.now (lexemes_of tokens.now) }
 {
     match tokens.split_first() {
         Some((t, _)) => {
@@ -43,7 +43,7 @@ fn names_follow(t: &Token<'_>) -> bool
 }
 
 fn is_left_out(names: bool, t: &Token<'_>, behind: &[Token<'_>]) -> bool
-    ensures { result ≡ is_left_out names (lexeme_of t.now) (told behind.now) }
+    ensures { result ≡ is_left_out names (lexeme_of t.now) (lexemes_of behind.now) }
 {
     match t.kind {
         Kind::LeftOut | Kind::Float => true,
@@ -63,7 +63,7 @@ fn is_left_out(names: bool, t: &Token<'_>, behind: &[Token<'_>]) -> bool
 
 /// The first token that this language leaves out.
 pub fn first_left_out<'s, 't>(tokens: &'s [Token<'t>]) -> Option<&'s Token<'t>>
-    ensures { option_map (λ t. lexeme_of t.now) result ≡ first_left_out false (told tokens.now) }
+    ensures { option_map (λ t. lexeme_of t.now) result ≡ first_left_out false (lexemes_of tokens.now) }
 {
     let mut names = false;
     for (i, t) in tokens.iter().enumerate() {

@@ -1,15 +1,13 @@
 //! The parser of the types of parameters.
-ghost use Rattle.std.specs.Prelude.{◌≡◌, codes, IfOk, Some};
+ghost use Rattle.std.specs.Prelude.{◌≡◌, IfOk, Some};
 ghost use Rattle.pp_readers.specs.Parsed.{Reads};
-ghost use Rattle.pp_readers.specs.Expressions.{items};
 ghost use Rattle.pp_syntax.specs.declared.tree.TypeName.TheVariants as type;
-ghost use Rattle.pp_readers.specs.Names.{taken};
-ghost use Rattle.pp_parser.specs.TypeReading.{upper_with, bounds_with, maybe_bounds, text_type, number_type, member_with, maybe_member, members_with, texts_with, shaped, quoted_by, type_by, type_with, type_at};
+ghost use Rattle.pp_parser.specs.TypeReading.{upper_with, bounds_with, maybe_bounds, text_type, number_type, member_with, maybe_member, members_in, members_with, texts_in, texts_with, shaped, type_by, type_with, type_at};
 
 use crate::words::{TypeWord, bound, quoted, type_word_at};
 use pp_expression::{expect, mark, separator, turns};
 use pp_readers::{Misread, Read};
-use pp_statement::begins;
+use pp_statement::{Parser, begins};
 use pp_syntax::{Kind, Token, TypeName};
 use rh_base::{Boxed, NoMemory, Seq, Text};
 use std::alloc::Global;
@@ -73,15 +71,15 @@ fn number_type(bounds: Option<(i64, Option<i64>)>) -> TypeName
 }
 
 /// Texts in single quotes with commas between them, and the bracket that closes them.
-fn texts(alloc: Global, turns: usize, tokens: &[Token<'_>], from: usize) -> Read<Seq<Text>>
-    ensures { Reads (items (codes "]") (taken quoted_by) turns) tokens.now from result }
+fn texts(parser: &Parser<'_>, from: usize) -> Read<Seq<Text>>
+    ensures { Reads texts_in parser.now.tokens.now from result }
 {
-    let mut found = Seq::new(alloc);
+    let mut found = Seq::new(parser.alloc);
     let mut rest = from;
-    for _turn in 0..turns {
-        let (item, more) = quoted(alloc, tokens, rest)?;
+    for _turn in 0..turns(parser.tokens, from) {
+        let (item, more) = quoted(parser, rest)?;
         found.push(item)?;
-        let (ends, more) = separator("]", tokens, more)?;
+        let (ends, more) = separator("]", parser.tokens, more)?;
         if ends {
             return Ok((found, more));
         }
@@ -90,55 +88,49 @@ fn texts(alloc: Global, turns: usize, tokens: &[Token<'_>], from: usize) -> Read
     Err(Misread::Form(rest))
 }
 
-fn enumerated(alloc: Global, tokens: &[Token<'_>], from: usize) -> Read<Seq<Text>>
-    ensures { Reads texts_with tokens.now from result }
+fn enumerated(parser: &Parser<'_>, from: usize) -> Read<Seq<Text>>
+    ensures { Reads texts_with parser.now.tokens.now from result }
 {
-    let (_, rest) = expect(Kind::Tight, "[", tokens, from)?;
-    texts(alloc, turns(tokens, rest), tokens, rest)
+    let (_, rest) = expect(Kind::Tight, "[", parser.tokens, from)?;
+    texts(parser, rest)
 }
 
 /// A type, with brackets nested less deep than this.
 #[cycle(types)]
-pub fn type_at(alloc: Global, depth: usize, tokens: &[Token<'_>], from: usize) -> Read<TypeName>
-    ensures { Reads (type_at depth) tokens.now from result }
+pub fn type_at(parser: &Parser<'_>, depth: usize, from: usize) -> Read<TypeName>
+    ensures { Reads (type_at depth) parser.now.tokens.now from result }
 {
     if depth == 0 {
         return Err(Misread::Form(from));
     }
-    any_type(alloc, depth - 1, tokens, from)
+    any_type(parser, depth - 1, from)
 }
 
 #[cycle(types)]
-fn any_type(alloc: Global, depth: usize, tokens: &[Token<'_>], from: usize) -> Read<TypeName>
-    ensures { Reads (type_with (type_at depth)) tokens.now from result }
+fn any_type(parser: &Parser<'_>, depth: usize, from: usize) -> Read<TypeName>
+    ensures { Reads (type_with (type_at depth)) parser.now.tokens.now from result }
 {
-    match type_word_at(tokens, from) {
-        Some((word, rest)) => type_behind(alloc, depth, word, tokens, rest),
+    match type_word_at(parser.tokens, from) {
+        Some((word, rest)) => type_behind(parser, depth, word, rest),
         None => Err(Misread::Form(from)),
     }
 }
 
 /// The type that begins with this word, of which this index is behind.
 #[cycle(types)]
-fn type_behind(
-    alloc: Global,
-    depth: usize,
-    word: TypeWord,
-    tokens: &[Token<'_>],
-    from: usize,
-) -> Read<TypeName>
-    ensures { Reads (type_by (type_at depth) word) tokens.now from result }
+fn type_behind(parser: &Parser<'_>, depth: usize, word: TypeWord, from: usize) -> Read<TypeName>
+    ensures { Reads (type_by (type_at depth) word) parser.now.tokens.now from result }
 {
     match word {
         TypeWord::Any => Ok((TypeName::Any, from)),
         TypeWord::Boolean => Ok((TypeName::Boolean, from)),
         TypeWord::Hash => Ok((TypeName::Hash, from)),
-        TypeWord::Text => text_behind(tokens, from),
-        TypeWord::Number => number_behind(tokens, from),
-        TypeWord::Array => array_behind(alloc, depth, tokens, from),
-        TypeWord::Optional => optional_behind(alloc, depth, tokens, from),
-        TypeWord::Enum => enum_behind(alloc, tokens, from),
-        TypeWord::Variant => variant_behind(alloc, depth, tokens, from),
+        TypeWord::Text => text_behind(parser.tokens, from),
+        TypeWord::Number => number_behind(parser.tokens, from),
+        TypeWord::Array => array_behind(parser, depth, from),
+        TypeWord::Optional => optional_behind(parser, depth, from),
+        TypeWord::Enum => enum_behind(parser, from),
+        TypeWord::Variant => variant_behind(parser, depth, from),
     }
 }
 
@@ -156,21 +148,21 @@ fn number_behind(tokens: &[Token<'_>], from: usize) -> Read<TypeName>
     Ok((number_type(found), rest))
 }
 
-fn enum_behind(alloc: Global, tokens: &[Token<'_>], from: usize) -> Read<TypeName>
-    ensures { Reads (shaped type.Enum texts_with) tokens.now from result }
+fn enum_behind(parser: &Parser<'_>, from: usize) -> Read<TypeName>
+    ensures { Reads (shaped type.Enum texts_with) parser.now.tokens.now from result }
 {
-    let (found, rest) = enumerated(alloc, tokens, from)?;
+    let (found, rest) = enumerated(parser, from)?;
     Ok((TypeName::Enum(found), rest))
 }
 
 /// A type in brackets.
 #[cycle(types)]
-fn member(alloc: Global, depth: usize, tokens: &[Token<'_>], from: usize) -> Read<TypeName>
-    ensures { Reads (member_with (type_at depth)) tokens.now from result }
+fn member(parser: &Parser<'_>, depth: usize, from: usize) -> Read<TypeName>
+    ensures { Reads (member_with (type_at depth)) parser.now.tokens.now from result }
 {
-    let (_, rest) = expect(Kind::Tight, "[", tokens, from)?;
-    let (found, rest) = type_at(alloc, depth, tokens, rest)?;
-    let (_, rest) = expect(Kind::Sign, "]", tokens, rest)?;
+    let (_, rest) = expect(Kind::Tight, "[", parser.tokens, from)?;
+    let (found, rest) = type_at(parser, depth, rest)?;
+    let (_, rest) = expect(Kind::Sign, "]", parser.tokens, rest)?;
     Ok((found, rest))
 }
 
@@ -189,12 +181,12 @@ fn optional_of(alloc: Global, member: TypeName) -> Result<TypeName, NoMemory>
 }
 
 #[cycle(types)]
-fn array_behind(alloc: Global, depth: usize, tokens: &[Token<'_>], from: usize) -> Read<TypeName>
-    ensures { Reads (shaped type.Array (maybe_member (type_at depth))) tokens.now from result }
+fn array_behind(parser: &Parser<'_>, depth: usize, from: usize) -> Read<TypeName>
+    ensures { Reads (shaped type.Array (maybe_member (type_at depth))) parser.now.tokens.now from result }
 {
-    if begins(Kind::Tight, "[", tokens, from) {
-        let (found, rest) = member(alloc, depth, tokens, from)?;
-        let found = array_of(alloc, found)?;
+    if begins(Kind::Tight, "[", parser.tokens, from) {
+        let (found, rest) = member(parser, depth, from)?;
+        let found = array_of(parser.alloc, found)?;
         Ok((found, rest))
     } else {
         Ok((TypeName::Array(None), from))
@@ -202,31 +194,25 @@ fn array_behind(alloc: Global, depth: usize, tokens: &[Token<'_>], from: usize) 
 }
 
 #[cycle(types)]
-fn optional_behind(alloc: Global, depth: usize, tokens: &[Token<'_>], from: usize) -> Read<TypeName>
-    ensures { Reads (shaped type.Optional (member_with (type_at depth))) tokens.now from result }
+fn optional_behind(parser: &Parser<'_>, depth: usize, from: usize) -> Read<TypeName>
+    ensures { Reads (shaped type.Optional (member_with (type_at depth))) parser.now.tokens.now from result }
 {
-    let (found, rest) = member(alloc, depth, tokens, from)?;
-    let found = optional_of(alloc, found)?;
+    let (found, rest) = member(parser, depth, from)?;
+    let found = optional_of(parser.alloc, found)?;
     Ok((found, rest))
 }
 
 /// Types with commas between them, and the bracket that closes them.
 #[cycle(types)]
-fn types(
-    alloc: Global,
-    depth: usize,
-    turns: usize,
-    tokens: &[Token<'_>],
-    from: usize,
-) -> Read<Seq<TypeName>>
-    ensures { Reads (items (codes "]") (type_at depth) turns) tokens.now from result }
+fn types(parser: &Parser<'_>, depth: usize, from: usize) -> Read<Seq<TypeName>>
+    ensures { Reads (members_in (type_at depth)) parser.now.tokens.now from result }
 {
-    let mut found = Seq::new(alloc);
+    let mut found = Seq::new(parser.alloc);
     let mut rest = from;
-    for _turn in 0..turns {
-        let (item, more) = type_at(alloc, depth, tokens, rest)?;
+    for _turn in 0..turns(parser.tokens, from) {
+        let (item, more) = type_at(parser, depth, rest)?;
         found.push(item)?;
-        let (ends, more) = separator("]", tokens, more)?;
+        let (ends, more) = separator("]", parser.tokens, more)?;
         if ends {
             return Ok((found, more));
         }
@@ -236,10 +222,10 @@ fn types(
 }
 
 #[cycle(types)]
-fn variant_behind(alloc: Global, depth: usize, tokens: &[Token<'_>], from: usize) -> Read<TypeName>
-    ensures { Reads (shaped type.Variant (members_with (type_at depth))) tokens.now from result }
+fn variant_behind(parser: &Parser<'_>, depth: usize, from: usize) -> Read<TypeName>
+    ensures { Reads (shaped type.Variant (members_with (type_at depth))) parser.now.tokens.now from result }
 {
-    let (_, rest) = expect(Kind::Tight, "[", tokens, from)?;
-    let (found, rest) = types(alloc, depth, turns(tokens, rest), tokens, rest)?;
+    let (_, rest) = expect(Kind::Tight, "[", parser.tokens, from)?;
+    let (found, rest) = types(parser, depth, rest)?;
     Ok((TypeName::Variant(found), rest))
 }

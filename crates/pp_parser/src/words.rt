@@ -1,7 +1,7 @@
 //! The tokens that stand for types, numbers and names.
 ghost use Rattle.std.specs.Prelude.{◌≡◌, drop};
 ghost use Rattle.std.specs.Option.{option_map};
-ghost use Rattle.pp_syntax.specs.Lexing.{told};
+ghost use Rattle.pp_syntax.specs.Lexing.{lexemes_of};
 ghost use Rattle.pp_readers.specs.Parsed.{Gives, Reads, Sees};
 ghost use Rattle.pp_readers.specs.Names.{taken};
 ghost use Rattle.pp_parser.specs.TypeReading.{type_word, type_word_by, number_by, quoted_by};
@@ -9,7 +9,7 @@ ghost use Rattle.pp_parser.specs.ItemReading.{word_by, begins_type, unopened, ha
 
 use pp_expression::{front_of, number, sq, text_of};
 use pp_readers::{Misread, Read};
-use pp_statement::begins;
+use pp_statement::{Parser, begins};
 use pp_syntax::{Kind, Token};
 use rh_base::Text;
 use std::alloc::Global;
@@ -106,12 +106,12 @@ fn quoted_by(alloc: Global, index: usize, kind: Kind, text: &str) -> Result<Text
 }
 
 /// The value of the text in single quotes at this index.
-pub fn quoted(alloc: Global, tokens: &[Token<'_>], from: usize) -> Read<Text>
-    ensures { Reads (taken quoted_by) tokens.now from result }
+pub fn quoted(parser: &Parser<'_>, from: usize) -> Read<Text>
+    ensures { Reads (taken quoted_by) parser.now.tokens.now from result }
 {
-    match front_of(tokens, from) {
+    match front_of(parser.tokens, from) {
         Some((token, rest)) => {
-            let value = quoted_by(alloc, from, token.kind, token.text)?;
+            let value = quoted_by(parser.alloc, from, token.kind, token.text)?;
             Ok((value, rest))
         }
         None => Err(Misread::Form(from)),
@@ -128,7 +128,7 @@ fn word_by(kind: Kind, text: &str) -> Option<&str>
 }
 
 fn word_at<'a, 't>(tokens: &'a [Token<'t>], from: usize) -> Option<(&'t str, usize)>
-    ensures { option_map (λ x. (x.0.now, drop x.1 (told tokens.now))) result ≡ taken word_by (drop from (told tokens.now)) }
+    ensures { option_map (λ x. (x.0.now, drop x.1 (lexemes_of tokens.now))) result ≡ taken word_by (drop from (lexemes_of tokens.now)) }
 {
     let (token, rest) = front_of(tokens, from)?;
     let name = word_by(token.kind, token.text)?;
@@ -136,12 +136,12 @@ fn word_at<'a, 't>(tokens: &'a [Token<'t>], from: usize) -> Option<(&'t str, usi
 }
 
 /// The WORD at this index.
-pub fn word(alloc: Global, tokens: &[Token<'_>], from: usize) -> Read<Text>
-    ensures { Reads (taken word_by) tokens.now from result }
+pub fn word(parser: &Parser<'_>, from: usize) -> Read<Text>
+    ensures { Reads (taken word_by) parser.now.tokens.now from result }
 {
-    match word_at(tokens, from) {
+    match word_at(parser.tokens, from) {
         Some((name, rest)) => {
-            let name = text_of(alloc, name)?;
+            let name = text_of(parser.alloc, name)?;
             Ok((name, rest))
         }
         None => Err(Misread::Form(from)),
@@ -150,14 +150,14 @@ pub fn word(alloc: Global, tokens: &[Token<'_>], from: usize) -> Read<Text>
 
 /// No `{` stands at this index.
 pub fn unopened(tokens: &[Token<'_>], from: usize) -> bool
-    ensures { result ≡ unopened (drop from (told tokens.now)) }
+    ensures { result ≡ unopened (drop from (lexemes_of tokens.now)) }
 {
     !begins(Kind::Sign, "{", tokens, from)
 }
 
 /// A token stands at this index.
 pub fn has_token(tokens: &[Token<'_>], from: usize) -> bool
-    ensures { result ≡ has_token (drop from (told tokens.now)) }
+    ensures { result ≡ has_token (drop from (lexemes_of tokens.now)) }
 {
     match front_of(tokens, from) {
         Some(_) => true,
@@ -167,7 +167,7 @@ pub fn has_token(tokens: &[Token<'_>], from: usize) -> bool
 
 /// The type of a parameter begins at this index.
 pub fn begins_type(tokens: &[Token<'_>], from: usize) -> bool
-    ensures { result ≡ begins_type (drop from (told tokens.now)) }
+    ensures { result ≡ begins_type (drop from (lexemes_of tokens.now)) }
 {
     match front_of(tokens, from) {
         Some((token, _)) => matches!(token.kind, Kind::Ref),

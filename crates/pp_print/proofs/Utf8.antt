@@ -27,6 +27,8 @@ use Rattle.pp_print.proofs.Standing.{all_sound}
 use Rattle.pp_print.proofs.Walks.{Mark, Last, May, opened_by, last_of, Walks, GoodWord, AllGood}
 use Rattle.pp_print.proofs.WordLists.{GoodToken, Fine}
 use Rattle.pp_print.proofs.StatementWalks.{manifest_good}
+use Rattle.pp_syntax.proofs.Seams.{first_at}
+use Rattle.pp_syntax.proofs.Names.{Of-append}
 
 -- ---- ASCII bytes
 
@@ -42,16 +44,11 @@ ascii_one b h = IsUtf8-from_ascii (b ∷ []) each
 behind_ascii : (pre rest : List ℕ) (b : ℕ) → b < 128 → IsUtf8 pre → IsUtf8 rest → IsUtf8 (pre ++ b ∷ rest)
 behind_ascii pre rest b h u v = IsUtf8-append pre (b ∷ rest) u (IsUtf8-append (b ∷ []) rest (ascii_one b h) v)
 
--- the byte behind a front stands at the front's length
-byte_at : (pre rest : List ℕ) (b : ℕ) → get_or (pre ++ b ∷ rest) (length pre) 0 ≡ b
-byte_at [] rest b = refl
-byte_at (c ∷ pre) rest b = byte_at pre rest b
-
 -- An ASCII byte parts a text.
 parted : (pre rest : List ℕ) (b : ℕ) → b < 128 → IsUtf8 (pre ++ b ∷ rest) → IsUtf8 pre × IsUtf8 rest
 parted pre rest b h u =
     let long : length pre < length (pre ++ b ∷ rest) = omega (arith, length-append pre (b ∷ rest)) in
-    let ascii : get_or (pre ++ b ∷ rest) (length pre) 0 < 128 = omega (arith, h, byte_at pre rest b) in
+    let ascii : get_or (pre ++ b ∷ rest) (length pre) 0 < 128 = omega (arith, h, first_at pre rest b) in
     let front = IsUtf8-take (pre ++ b ∷ rest) (length pre) u (IsCharBoundary-before_ascii (pre ++ b ∷ rest) (length pre) long ascii) in
     let back = IsUtf8-drop (pre ++ b ∷ rest) (length pre + 1) u (IsCharBoundary-after_ascii (pre ++ b ∷ rest) (length pre) u long ascii) in
     let size : length pre + 1 ≡ length (pre ++ b ∷ []) = omega (arith, length-append pre (b ∷ [])) in (
@@ -77,11 +74,6 @@ ascii_utf8 (b ∷ s) h = behind_ascii [] s b (ltb-true b 128 h.0) IsUtf8-nil (as
 past_ascii : (front more : List ℕ) → Of is_ascii front → IsUtf8 (front ++ more) → IsUtf8 more
 past_ascii [] more h u = u
 past_ascii (b ∷ front) more h u = past_ascii front more h.1 (parted [] (front ++ more) b (ltb-true b 128 h.0) u).1
-
--- two texts over a set make a text over it
-of_append : (test : ℕ → Bool) (s t : List ℕ) → Of test s → Of test t → Of test (s ++ t)
-of_append test [] t h k = k
-of_append test (b ∷ s) t h k = (h.0, of_append test s t h.1 k)
 
 -- a text over a set of ASCII bytes is ASCII
 all_of : (test : ℕ → Bool) (s : List ℕ) → ((b : ℕ) → test b ≡ true → is_ascii b ≡ true) → Of test s → Of is_ascii s
@@ -174,7 +166,7 @@ escape_utf8 value front (four digits f size h s v) = (
 )
 escape_utf8 value front (braced digits f least most h s v) = (
   subst (λ (t : List ℕ). IsUtf8 t) (sym v) (scalar_utf8 (hex_value digits) s),
-  subst (λ (t : List ℕ). Of is_ascii t) (sym f) (refl, (refl, of_append is_ascii digits (125 ∷ []) (all_of is_hex digits hex_ascii h) (refl, tt))),
+  subst (λ (t : List ℕ). Of is_ascii t) (sym f) (refl, (refl, Of-append is_ascii digits (125 ∷ []) (all_of is_hex digits hex_ascii h) (refl, tt))),
 )
 
 -- the value of a text in double quotes is UTF-8 where the text is
@@ -252,7 +244,7 @@ segment_ascii how (b ∷ s) h = (ascii_begins how b h.0, all_of (goes_on how) s 
 -- segments with `::` between them are
 joined_ascii : (how : Style) (s : List ℕ) → Joined how s → Of is_ascii s
 joined_ascii how s (one h) = segment_ascii how s h
-joined_ascii how s (another front rest h more e) = subst (λ (t : List ℕ). Of is_ascii t) (sym e) (of_append is_ascii front (58 ∷ 58 ∷ rest) (segment_ascii how front h) (refl, (refl, joined_ascii how rest more)))
+joined_ascii how s (another front rest h more e) = subst (λ (t : List ℕ). Of is_ascii t) (sym e) (Of-append is_ascii front (58 ∷ 58 ∷ rest) (segment_ascii how front h) (refl, (refl, joined_ascii how rest more)))
 
 -- a name is ASCII
 name_ascii : (how : Style) (s : List ℕ) → Name how s → Of is_ascii s

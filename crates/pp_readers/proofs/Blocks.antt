@@ -17,7 +17,7 @@ use Rattle.pp_syntax.specs.Statements as grammar
 use Rattle.pp_readers.specs.Marks.{Found}
 use Rattle.pp_readers.specs.Parsed.{Begins}
 use Rattle.pp_readers.specs.Expressions.{with_front, option_with, reference_with, postfix_with}
-use Rattle.pp_readers.proofs.Tokens.{bind_some, joins, maps}
+use Rattle.pp_readers.proofs.Tokens.{joins, maps}
 use Rattle.pp_readers.proofs.Finding.{Finds, items_found}
 use Rattle.pp_readers.proofs.Found.{option_found}
 use Rattle.pp_readers.specs.Combining.{Reader, both, behind, in_braces, begins}
@@ -26,6 +26,7 @@ use Rattle.pp_readers.specs.Statements.{unclosed, statements_in, block_with, els
 use Rattle.pp_readers.proofs.Combining.{Spells, both_found, behind_found, in_braces_found, made_found, placed_found, first_token, some_token, many_found}
 use Rattle.pp_readers.proofs.BodiesFound.{front_some, each_next}
 use Rattle.pp_readers.proofs.ChainsFound.{chain_found, assign_found, call_found}
+use Rattle.rh_base.proofs.Options.{bind_some}
 
 -- tokens of three phrases, joined at the other place
 pub to_right : (A B C : List Lexeme → Type 0) (us : List Lexeme) → ((A then B) then C) us → (A then (B then C)) us

@@ -16,13 +16,14 @@ use Rattle.pp_readers.specs.Marks.{Found, mark}
 use Rattle.rh_base.specs.Reading.{◌>>=◌}
 use Rattle.pp_readers.specs.Parsed.{Begins}
 use Rattle.pp_readers.specs.Expressions.{with_front}
-use Rattle.pp_readers.proofs.Tokens.{bind_some, joins, maps, marked}
+use Rattle.pp_readers.proofs.Tokens.{joins, maps, marked}
 use Rattle.pp_readers.proofs.Finding.{Finds}
 use Rattle.pp_readers.specs.Combining.{Reader, both, behind, begins, listed}
 use Rattle.pp_readers.specs.Names.{taken, name_by, begins_name}
 use Rattle.pp_readers.specs.Statements.{attr_of, attr_with, attrs_with, body_of, body_with, unclosed, bodies_with, compared_or, compared_with, atom_or, atom_with, all_of, ands_with, conjunction_with, any_of, ors_with, search_with, search_at, sought_with}
 use Rattle.pp_readers.proofs.Combining.{Spells, both_found, behind_found, before_found, made_found, placed_found, many_found, ListedBy, listed_found, listed_some}
 use Rattle.pp_readers.proofs.Names.{name_found}
+use Rattle.rh_base.proofs.Options.{bind_some}
 
 -- a name is no empty list of tokens
 pub name_some : (x : List ℕ) → NameOf x [] → ⊥

@@ -21,7 +21,7 @@ use Rattle.pp_readers.specs.Marks.{Found, front_of, first_at, mark}
 use Rattle.rh_base.specs.Reading.{◌>>=◌}
 use Rattle.pp_readers.specs.Parsed.{Begins}
 use Rattle.pp_readers.specs.Expressions.{with_front, reference_with, postfix_with}
-use Rattle.pp_readers.proofs.Tokens.{bind_some, joins, maps, marked}
+use Rattle.pp_readers.proofs.Tokens.{joins, maps, marked}
 use Rattle.pp_readers.proofs.Finding.{Finds, items_found}
 use Rattle.pp_readers.proofs.Found.{first_is}
 use Rattle.pp_readers.specs.Combining.{Reader, both, behind, before, in_braces, begins, many}
@@ -30,6 +30,7 @@ use Rattle.pp_readers.specs.Statements.{bodies_with, sought_with, resource_of, d
 use Rattle.pp_readers.proofs.Combining.{Spells, both_found, behind_found, before_found, in_braces_found, made_found, placed_found, first_token, some_token, many_found}
 use Rattle.pp_readers.proofs.Names.{TypeName, variable_found, ref_found, function_found, type_found, arrow_found}
 use Rattle.pp_readers.proofs.BodiesFound.{front_nil, then_some, front_some, each_next, bodies_found, sought_found}
+use Rattle.rh_base.proofs.Options.{bind_some}
 
 -- a token is no empty list of tokens
 pub some_of : (k : Kind) (s : List ℕ) → phrases.Some k s [] → ⊥

@@ -11,11 +11,12 @@ use Rattle.pp_readers.specs.Marks.{Found, first_at, mark}
 use Rattle.rh_base.specs.Reading.{◌>>=◌}
 use Rattle.pp_readers.specs.Parsed.{Begins}
 use Rattle.pp_readers.specs.Expressions.{with_first}
-use Rattle.pp_readers.proofs.Tokens.{bind_some, joins, maps, marked}
+use Rattle.pp_readers.proofs.Tokens.{joins, maps, marked}
 use Rattle.pp_readers.proofs.Finding.{Finds, nothing, with_first_some, parts}
 use Rattle.pp_readers.proofs.Found.{first_is}
 use Rattle.pp_readers.specs.Combining.{Reader, both, made, behind, before, in_braces, many, after_item, listed}
 use Rattle.pp_readers.specs.Names.{taken}
+use Rattle.rh_base.proofs.Options.{bind_some}
 
 -- what some tokens spell
 abbrev pub Spells : Type 0 → Type 1

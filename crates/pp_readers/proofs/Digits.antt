@@ -56,7 +56,7 @@ hex_no b text h = by_test (is_hex b) h
     by_test false k = refl
 
 -- what is found behind a byte stands behind it
-behind_some : (c : ℕ) (text rest : List ℕ) → behind_byte c text ≡ Some rest → text ≡ c ∷ rest
+pub behind_some : (c : ℕ) (text rest : List ℕ) → behind_byte c text ≡ Some rest → text ≡ c ∷ rest
 behind_some c [] rest h = cc
 behind_some c (b ∷ text) rest h = by_test (b == c) refl h
   where

@@ -17,7 +17,8 @@ use Rattle.pp_readers.specs.Marks.{Found, mark, sign_operator, keyword_operator,
 use Rattle.rh_base.specs.Reading.{◌>>=◌}
 use Rattle.pp_readers.specs.Parsed.{Begins}
 use Rattle.pp_readers.specs.Expressions.{with_first, operations, operations_or_end, prefixes, prefixes_or_end, separator, separator_or_end, behind_comma, after_comma, more_items, items, items_or_end, maybe_items}
-use Rattle.pp_readers.proofs.Tokens.{bind_some, joins, maps, marked}
+use Rattle.pp_readers.proofs.Tokens.{joins, maps, marked}
+use Rattle.rh_base.proofs.Options.{bind_some}
 
 -- what this reader finds is spelled at the front of the tokens by this rule
 abbrev pub Finds : {X : Type 0} → (List Lexeme → Found X) → (X → List Lexeme → Type 0) → Type 0

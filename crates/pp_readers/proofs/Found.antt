@@ -15,8 +15,9 @@ use Rattle.pp_readers.specs.Marks.{Found, first_at, mark, begins_suffix}
 use Rattle.rh_base.specs.Reading.{◌>>=◌}
 use Rattle.pp_readers.specs.Parsed.{Begins}
 use Rattle.pp_readers.specs.Expressions.{chain_of, chain_with, operations, items, maybe_items, enclosed_with, pair_with, option_or, option_with, choice_with, titles_with, refer_by, reference_with, list_with, map_with, opened_or, index_with, choices_with, selection_with, suffix_by, suffix_with, suffixes}
-use Rattle.pp_readers.proofs.Tokens.{bind_some, joins, maps, marked, marked_at}
+use Rattle.pp_readers.proofs.Tokens.{joins, maps, marked, marked_at}
 use Rattle.pp_readers.proofs.Finding.{Finds, operations_found, items_found, maybe_items_found}
+use Rattle.rh_base.proofs.Options.{bind_some}
 
 -- The place of what is read is that of its first token.
 pub first_is : (us rest ts : List Lexeme) → ts ≡ us ++ rest → us ≢ [] → first_at ts ≡ place_of us

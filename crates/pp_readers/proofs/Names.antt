@@ -2,7 +2,6 @@
 use Rattle.std.proofs.Common.{◌≡◌, ℕ, ◌==◌, ◌||◌, Bool, true, false, cond, List, [], ◌∷◌, Option, Some, None, refl, sym, ap, subst, ◌∙◌}
 use Rattle.std.specs.Prelude.{codes}
 use Rattle.std.specs.Str.{bytes_eq}
-use Rattle.std.proofs.lemmas.Bool.{eqb-true}
 use Rattle.std.proofs.lemmas.Slice.Eq.{bytes_eq-Decides}
 use Rattle.pp_syntax.specs.declared.token.Kind.{Kind}
 use Rattle.pp_syntax.specs.declared.token.Kind.TheVariants as kind
@@ -14,11 +13,12 @@ use Rattle.pp_syntax.specs.Tokens.{Lexeme, is_among}
 use Rattle.pp_syntax.specs.Phrases as phrases
 use Rattle.pp_syntax.specs.Statements.{is_qualified, NameOf, word, keyword, VariableOf, word_of, functions, ArrowOf, arrow_of}
 use Rattle.pp_readers.specs.Values.{behind_byte}
-use Rattle.pp_readers.proofs.Tokens.{bind_some}
 use Rattle.pp_readers.proofs.Finding.{Finds}
 use Rattle.pp_syntax.specs.Statements.{function_of}
 use Rattle.pp_readers.specs.Names.{taken, plain_name, name_by, variable_by, ref_by, function_by, unless_function, type_by, arrow_by}
 use Rattle.pp_readers.proofs.Combining.{taken_found}
+use Rattle.pp_readers.proofs.Digits.{behind_some}
+use Rattle.rh_base.proofs.Options.{bind_some}
 
 -- one token of this kind and text, at this place
 abbrev token : Kind → List ℕ → ℕ → List Lexeme
@@ -56,21 +56,12 @@ name_is kind.LeftOut s x at h = cc
 pub name_found : Finds (taken name_by) NameOf
 name_found = taken_found name_by NameOf name_is
 
--- what is found behind a byte stands behind it
-behind_is : (c : ℕ) (s r : List ℕ) → behind_byte c s ≡ Some r → s ≡ c ∷ r
-behind_is c [] r h = cc
-behind_is c (b ∷ s) r h = by_test (b == c) refl h
-  where
-    by_test : (v : Bool) → (b == c) ≡ v → cond v (Some s) None ≡ Some r → b ∷ s ≡ c ∷ r
-    by_test true p k = let e : s ≡ r = cc in ap (λ (d : ℕ). d ∷ s) (eqb-true b c p) ∙ ap (λ (u : List ℕ). c ∷ u) e
-    by_test false p k = cc
-
 -- a token that is a variable is spelled as it
 variable_is : (k : Kind) (s x : List ℕ) (at : ℕ) → variable_by k s ≡ Some x → VariableOf x (token k s at)
 variable_is kind.Var s x at h =
     let a = bind_some (behind_byte 36 s) plain_name x h in
     let p = plain_found a.0 x a.2 in
-    ((at, ap (λ (u : List ℕ). token kind.Var u at) (behind_is 36 s a.0 a.1 ∙ ap (λ (u : List ℕ). 36 ∷ u) p.0)), p.1)
+    ((at, ap (λ (u : List ℕ). token kind.Var u at) (behind_some 36 s a.0 a.1 ∙ ap (λ (u : List ℕ). 36 ∷ u) p.0)), p.1)
 variable_is kind.Word s x at h = cc
 variable_is kind.Keyword s x at h = cc
 variable_is kind.Ref s x at h = cc

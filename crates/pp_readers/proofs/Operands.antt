@@ -3,7 +3,7 @@ use Rattle.std.proofs.Common.{◌≡◌, ◌≢◌, ◌⊎◌, inl, inr, ℕ, ze
 use Rattle.std.specs.Prelude.{codes, pos, nat_lt}
 use Rattle.std.specs.Option.{option_map}
 use Rattle.std.specs.Str.{bytes_eq}
-use Rattle.std.proofs.lemmas.Bool.{eqb-true}
+use Rattle.std.proofs.lemmas.Bool.{or_left}
 use Rattle.std.proofs.lemmas.List.{append-nil}
 use Rattle.std.proofs.lemmas.Slice.Eq.{bytes_eq-Decides}
 use Rattle.pp_syntax.specs.declared.token.Kind.{Kind}
@@ -22,38 +22,27 @@ use Rattle.rh_base.specs.Reading.{◌>>=◌}
 use Rattle.pp_readers.specs.Values.{name_of, behind_byte, atom, int_form, literal, sq, dq, before_quote}
 use Rattle.pp_readers.specs.Parsed.{Begins}
 use Rattle.pp_readers.specs.Expressions.{primary_by, primary_with, atom_of, atom_at, string_by, string_with, double_with, quoted_with, members, member_with, member_by, with_member, end_or_member, joined, plain_of, part_with, hole_with, inner_with, inner_of, begins_word, is_word, as_variable}
-use Rattle.pp_readers.proofs.Tokens.{bind_some, joins, maps, marked, marked_at}
+use Rattle.pp_readers.proofs.Tokens.{joins, maps, marked, marked_at}
 use Rattle.pp_readers.proofs.Finding.{Finds, parts}
 use Rattle.pp_readers.proofs.Found.{Spells, solid, reference_found, list_found, opened_found}
 use Rattle.pp_readers.proofs.Variables.{Stays, variable_found}
 use Rattle.pp_readers.proofs.Escapes.{before_found}
+use Rattle.pp_readers.proofs.Digits.{behind_some}
+use Rattle.pp_syntax.proofs.Escapes.{map_some}
+use Rattle.rh_base.proofs.Options.{bind_some}
 
 -- ---- single tokens
-
--- what is found behind a byte stands behind it
-behind_found : (c : ℕ) (s r : List ℕ) → behind_byte c s ≡ Some r → s ≡ c ∷ r
-behind_found c [] r h = cc
-behind_found c (b ∷ s) r h = by_test (b == c) refl h
-  where
-    by_test : (v : Bool) → (b == c) ≡ v → cond v (Some s) None ≡ Some r → b ∷ s ≡ c ∷ r
-    by_test true p k = let same : s ≡ r = cc in ap (λ d. d ∷ s) (eqb-true b c p) ∙ ap (λ u. c ∷ u) same
-    by_test false p k = cc
 
 -- a text in single quotes that has a value is spelled so
 pub sq_found : (s v : List ℕ) → sq s ≡ Some v → SqOf v s
 unfolding sq
 sq_found s v h =
     let a = bind_some (behind_byte 39 s) (λ r. option_map sq_value (before_quote r)) v h in
-    inside a.0 (behind_found 39 s a.0 a.1) (before_quote a.0) refl a.2
+    inside a.0 (behind_some 39 s a.0 a.1) (before_quote a.0) refl a.2
   where
     inside : (r : List ℕ) → s ≡ 39 ∷ r → (q : Option (List ℕ)) → before_quote r ≡ q → option_map sq_value q ≡ Some v → SqOf v s
     inside r e None p k = cc
     inside r e (Some raw) p k = let same : sq_value raw ≡ v = cc in (raw, e ∙ ap (λ u. 39 ∷ u) (before_found r raw p), sym same)
-
--- an image comes from a value
-map_some : {A B : Type 0} (g : A → B) (r : Option A) (y : B) → option_map g r ≡ Some y → (x : A) × (r ≡ Some x) × (g x ≡ y)
-map_some g None y h = cc
-map_some g (Some x) y h = (x, refl, cc)
 
 -- a token of this kind, by itself
 token_of : (k : Kind) (t : Lexeme) → t.kind ≡ k → phrases.Token k t.text t.at (t ∷ [])
@@ -93,7 +82,7 @@ module _ (E : Expr → List Lexeme → Type 0) where
   atom_kind kind.Word t f is h = let same : form.Str t.text ≡ f = cc in grammar.word t.text (token_of kind.Word t is) (sym same)
   atom_kind kind.Var t f is h =
       let a = map_some form.Var (name_of t.text) f h in
-      grammar.variable a.0 (token_of kind.Var t is ∙ ap (λ (u : List ℕ). record { kind = kind.Var; text = u; at = t.at } ∷ []) (behind_found 36 t.text a.0 a.1)) (sym a.2)
+      grammar.variable a.0 (token_of kind.Var t is ∙ ap (λ (u : List ℕ). record { kind = kind.Var; text = u; at = t.at } ∷ []) (behind_some 36 t.text a.0 a.1)) (sym a.2)
   atom_kind kind.Keyword t f is h = literal_found t f is h
   atom_kind kind.Ref t f is h = cc
   atom_kind kind.Float t f is h = cc
@@ -127,11 +116,6 @@ part-append (t ∷ a) b = by_kind (is_part t.kind) (part-append a b)
     by_kind : (v : Bool) → has_part (a ++ b) ≡ (has_part a || has_part b) → (v || has_part (a ++ b)) ≡ ((v || has_part a) || has_part b)
     by_kind true e = refl
     by_kind false e = e
-
--- a disjunction holds where its first side does
-or_true : (a b : Bool) → a ≡ true → (a || b) ≡ true
-or_true true b h = refl
-or_true false b h = cc
 
 -- the first token is a WORD
 pub word_here : (us rest ts : List Lexeme) → ts ≡ us ++ rest → us ≢ [] → begins_word ts ≡ true → kind_of_first us ≡ Some kind.Word
@@ -200,7 +184,7 @@ module _ (dq_found : (raw v : List ℕ) → dq raw ≡ Some v → DqOf v raw) (e
 
   -- such tokens have an expression among them
   hole_has_part : (y : Expr) (us : List Lexeme) → (phrases.Some kind.Hole (codes "${") then (InnerOf E y then phrases.Some kind.HoleEnd (codes "}"))) us → has_part us ≡ true
-  hole_has_part y us s = ap has_part s.whole ∙ part-append s.front s.back ∙ or_true (has_part s.front) (has_part s.back) (ap has_part s.first.1)
+  hole_has_part y us s = ap has_part s.whole ∙ part-append s.front s.back ∙ or_left (has_part s.front) (has_part s.back) (ap has_part s.first.1)
 
   -- what is read by its kind is a member of a text in double quotes, spelled so
   member_kind : (k : Kind) (t : Lexeme) (ts : List Lexeme) (x : (Expr × Bool) × List Lexeme) → t.kind ≡ k → member_by e k t ts (t ∷ ts) ≡ Some x → Begins (Piece x.0) (t ∷ ts) x.1
@@ -216,7 +200,7 @@ module _ (dq_found : (raw v : List ℕ) → dq raw ≡ Some v → DqOf v raw) (e
       subst (λ (y : (Expr × Bool) × List Lexeme). Begins (Piece y.0) (t ∷ ts) y.1) same
       (record {
         front = t ∷ [];
-        spelled = (grammar.MemberOf.variable a.0 (token_of kind.DqVar t is ∙ ap (λ (u : List ℕ). record { kind = kind.DqVar; text = u; at = t.at } ∷ []) (behind_found 36 t.text a.0 a.1)) refl, ap (λ (k : Kind). is_part k || false) is);
+        spelled = (grammar.MemberOf.variable a.0 (token_of kind.DqVar t is ∙ ap (λ (u : List ℕ). record { kind = kind.DqVar; text = u; at = t.at } ∷ []) (behind_some 36 t.text a.0 a.1)) refl, ap (λ (k : Kind). is_part k || false) is);
         whole = refl;
       })
   member_kind kind.Hole t ts x is h =

@@ -27,7 +27,7 @@ use Rattle.pp_readers.proofs.Listing.{Closes}
 use Rattle.pp_readers.proofs.Spelled.{variable_is, begins_of, word_of, enclosed_read, reference_read, list_read, map_read, suffixes_read}
 
 -- `)` closes a list
-paren_closes : Closes (codes ")")
+pub paren_closes : Closes (codes ")")
 paren_closes = record { here = λ at rest. refl; no_comma = λ at rest. refl; quiet = λ at rest. refl }
 
 -- a text in single quotes is read with its value

@@ -53,7 +53,7 @@ closing_ends : (rest : List Lexeme) → Closing rest → NothingFollows rest
 closing_ends rest c = subst NothingFollows (sym c.2) (record { no_operator = refl; no_arrow = refl; no_comma = refl; no_elsif = refl; no_else = refl })
 
 -- tokens that aren't none are one or more
-some_long : (us : List Lexeme) → us ≢ [] → 0 < length us
+pub some_long : (us : List Lexeme) → us ≢ [] → 0 < length us
 some_long [] n = absurd (n refl)
 some_long (t ∷ us) n = omega arith
 

@@ -24,7 +24,7 @@ use Rattle.rh_base.specs.Reading.{◌>>=◌}
 use Rattle.pp_readers.specs.Expressions.{with_front, reference_with, postfix_with}
 use Rattle.pp_readers.proofs.Reading.{Fit, fits_first, fits_second, first_place}
 use Rattle.pp_readers.proofs.Solid.{Begun, begun_some, no_close_first}
-use Rattle.pp_readers.proofs.Listing.{Closes, bracket_closes, items_read}
+use Rattle.pp_readers.proofs.Listing.{bracket_closes, items_read}
 use Rattle.pp_readers.proofs.Tokens.{mark_found}
 use Rattle.pp_readers.specs.Combining.{Reader, both, behind, before, in_braces, begins, is_found, many}
 use Rattle.pp_syntax.specs.Statements.{function_of}
@@ -38,10 +38,7 @@ use Rattle.pp_readers.proofs.Blocks.{to_left}
 use Rattle.pp_readers.proofs.Building.{Phrase, Always, ReadsBefore, mark_here, mark_not, split, both_read, behind_read, before_read, made_read, placed_read, taken_read, many_read, row_quiet}
 use Rattle.pp_readers.proofs.ReadBodies.{Quiet, by_first, token_solid, braced_read}
 use Rattle.pp_readers.proofs.ReadSearch.{NoSuffix, Collected, sought_read, begins_here, each_rest}
-
--- `)` closes a list
-pub paren_closes : Closes (codes ")")
-paren_closes = record { here = λ at rest. refl; no_comma = λ at rest. refl; quiet = λ at rest. refl }
+use Rattle.pp_readers.proofs.Quotes.{paren_closes}
 
 -- ---- tokens
 
@@ -50,11 +47,11 @@ type_read : ReadsBefore Always (taken type_by) TypeName
 type_read x us rest t f q = taken_read type_by kind.Word x x us rest t.0 (ap (unless_function x) (function_none x t.1))
 
 -- a type's name in capitals is read
-ref_read : ReadsBefore Always (taken ref_by) (phrases.Some kind.Ref)
+pub ref_read : ReadsBefore Always (taken ref_by) (phrases.Some kind.Ref)
 ref_read x us rest t f q = taken_read ref_by kind.Ref x x us rest t refl
 
 -- a variable is read
-variable_read : ReadsBefore Always (taken variable_by) VariableOf
+pub variable_read : ReadsBefore Always (taken variable_by) VariableOf
 variable_read x us rest t f q = taken_read variable_by kind.Var (36 ∷ x) x us rest t.0 (ap (λ v. cond v None (Some x)) t.1)
 
 -- the word of a function is told to be that function

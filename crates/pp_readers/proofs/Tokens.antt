@@ -1,5 +1,5 @@
 -- Single tokens, and tokens behind one another.
-use Rattle.std.proofs.Common.{◌≡◌, ℕ, ◌&&◌, Bool, true, false, cond, List, [], ◌∷◌, ◌++◌, Option, Some, None, refl, sym, ap, ◌∙◌, append_assoc}
+use Rattle.std.proofs.Common.{◌≡◌, ℕ, ◌&&◌, Bool, true, false, cond, List, [], ◌∷◌, ◌++◌, Some, None, refl, sym, ap, ◌∙◌, append_assoc}
 use Rattle.std.proofs.lemmas.Slice.Eq.{bytes_eq-Decides}
 use Rattle.std.specs.Str.{bytes_eq}
 use Rattle.pp_syntax.specs.declared.token.Kind.{Kind}
@@ -10,11 +10,6 @@ use Rattle.pp_syntax.specs.Phrases.{◌then◌}
 use Rattle.pp_readers.specs.Marks.{is_kind, mark}
 use Rattle.rh_base.specs.Reading.{◌>>=◌}
 use Rattle.pp_readers.specs.Parsed.{Begins}
-
--- where two steps find something, the first found something and the second went on from it
-pub bind_some : {A B : Type 0} (r : Option A) (f : A → Option B) (y : B) → (r >>= f) ≡ Some y → (x : A) × (r ≡ Some x) × (f x ≡ Some y)
-bind_some (Some x) f y h = (x, refl, h)
-bind_some None f y h = cc
 
 -- what begins the tokens, and what begins those behind it, begin them together
 unfoldable pub joins : {A B : List Lexeme → Type 0} {ts mid rest : List Lexeme} → Begins A ts mid → Begins B mid rest → Begins (A then B) ts rest

@@ -11,11 +11,12 @@ use Rattle.pp_readers.specs.Marks.{Found, first_at}
 use Rattle.pp_readers.specs.Values.{dq}
 use Rattle.pp_readers.specs.Parsed.{Begins}
 use Rattle.pp_readers.specs.Expressions.{prefixes, prefixed, suffixes, postfix_with, unary_with, primary_with, levels_with, expr_at}
-use Rattle.pp_readers.proofs.Tokens.{bind_some, joins}
+use Rattle.pp_readers.proofs.Tokens.{joins}
 use Rattle.pp_readers.proofs.Finding.{Finds, prefixes_found}
 use Rattle.pp_readers.proofs.Found.{Spells, first_is, chain_found, suffixes_found}
 use Rattle.pp_readers.proofs.Operands.{primary_found}
 use Rattle.pp_readers.proofs.Solid.{lead, grows, primary_lead, begun_some, LevelOf, level_begun, expr_begun}
+use Rattle.rh_base.proofs.Options.{bind_some}
 
 module _ (dq_found : (raw v : List ℕ) → dq raw ≡ Some v → DqOf v raw) (e : List Lexeme → Found Expr) (E : Expr → List Lexeme → Type 0) (finds : Finds e E) (never : Spells E) where
   -- what is read as an operand with indexes and selections is spelled so

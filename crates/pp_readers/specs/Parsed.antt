@@ -5,7 +5,7 @@ use Rattle.std.specs.List.{AllByRecursion}
 use Rattle.pp_syntax.specs.declared.token.Kind.TheVariants as kind
 use Rattle.pp_syntax.specs.declared.token.Token.{Token}
 use Rattle.pp_syntax.specs.Tokens.{Lexeme, int_value}
-use Rattle.pp_syntax.specs.Lexing.{told}
+use Rattle.pp_syntax.specs.Lexing.{lexemes_of}
 use Rattle.pp_readers.specs.declared.misread.Misread.{Misread}
 use Rattle.pp_readers.specs.declared.misread.Misread.TheVariants as misread
 use Rattle.pp_readers.specs.Marks.{Found, reach}
@@ -22,11 +22,11 @@ Gives view (Err e) read = Fails e read
 
 -- From this index on the reader finds what is answered, with the index behind it.
 abbrev pub Reads : {X : Type 0} → (List Lexeme → Found X) → List Token → ℕ → Result (X × ℕ) Misread → Type 0
-Reads f tokens from r = Gives (λ x. (x.0, drop x.1 (told tokens))) r (f (drop from (told tokens)))
+Reads f tokens from r = Gives (λ x. (x.0, drop x.1 (lexemes_of tokens))) r (f (drop from (lexemes_of tokens)))
 
 -- the same, of what needs no memory and gives no reason
 abbrev pub Sees : {X : Type 0} → (List Lexeme → Found X) → List Token → ℕ → Option (X × ℕ) → Type 0
-Sees f tokens from r = option_map (λ x. (x.0, drop x.1 (told tokens))) r ≡ f (drop from (told tokens))
+Sees f tokens from r = option_map (λ x. (x.0, drop x.1 (lexemes_of tokens))) r ≡ f (drop from (lexemes_of tokens))
 
 -- The tokens begin with some that spell this, before the rest.
 pub record Begins (A : List Lexeme → Type 0) (ts rest : List Lexeme) : Type 0 where

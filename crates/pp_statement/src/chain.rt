@@ -1,28 +1,28 @@
 //! The parser of chains, assignments and calls.
-ghost use Rattle.std.specs.Prelude.{◌≡◌, codes, [], ◌∷◌};
+ghost use Rattle.std.specs.Prelude.{◌≡◌, ◌+◌, codes, [], ◌∷◌, length};
 ghost use Rattle.pp_syntax.specs.declared.token.Kind.TheVariants as kind;
 ghost use Rattle.pp_readers.specs.Parsed.{Gives, Reads};
-ghost use Rattle.pp_readers.specs.Expressions.{expr_at, items, with_front};
+ghost use Rattle.pp_readers.specs.Expressions.{expr_at, with_front};
 ghost use Rattle.pp_readers.specs.Combining.{behind, many};
 ghost use Rattle.pp_readers.specs.Names.{begins_arrow};
-ghost use Rattle.pp_readers.specs.Statements.{link_with, with_links, sides_with, is_named, chain_of, chain_with, assign_with, more_args, bare_with, args_with, call_with};
+ghost use Rattle.pp_readers.specs.Statements.{link_with, with_links, sides_with, is_named, chain_of, chain_with, assign_with, bracketed_with, more_args, bare_with, args_with, call_with};
 
 use crate::expressions::expr;
 use crate::marks::{arrow_at, begins, begins_arrow, begins_bracket, function_at, variable};
 use crate::operand::operand;
+use crate::parser::Parser;
 use pp_expression::{expect, first_at, mark, separator, turns};
 use pp_readers::{Misread, Read};
-use pp_syntax::{Arrow, Expr, Kind, Operand, Stmt, Token};
+use pp_syntax::{Arrow, Expr, Kind, Operand, Stmt};
 use rh_base::Seq;
-use std::alloc::Global;
 
 /// An arrow and the operand behind it.
-fn link(alloc: Global, limit: usize, tokens: &[Token<'_>], from: usize) -> Read<(Arrow, Operand)>
-    ensures { Reads (link_with (expr_at limit)) tokens.now from result }
+fn link(parser: &Parser<'_>, from: usize) -> Read<(Arrow, Operand)>
+    ensures { Reads (link_with (expr_at parser.now.limit)) parser.now.tokens.now from result }
 {
-    match arrow_at(tokens, from) {
+    match arrow_at(parser.tokens, from) {
         Some((arrow, rest)) => {
-            let (side, rest) = operand(alloc, limit, tokens, rest)?;
+            let (side, rest) = operand(parser, rest)?;
             Ok(((arrow, side), rest))
         }
         None => Err(Misread::Form(from)),
@@ -31,42 +31,34 @@ fn link(alloc: Global, limit: usize, tokens: &[Token<'_>], from: usize) -> Read<
 
 /// The sides from the first on, and the arrows between them.
 fn sides_behind(
-    alloc: Global,
-    limit: usize,
+    parser: &Parser<'_>,
     first: Operand,
-    turns: usize,
-    tokens: &[Token<'_>],
     from: usize,
 ) -> Read<(Seq<Operand>, Seq<Arrow>)>
-    ensures { Reads (λ ts. with_links (first ∷ []) [] (many begins_arrow (link_with (expr_at limit)) turns ts)) tokens.now from result }
+    ensures { Reads (λ ts. with_links (first ∷ []) [] (many begins_arrow (link_with (expr_at parser.now.limit)) (length ts + 1) ts))
+        parser.now.tokens.now from result }
 {
-    let mut sides = Seq::new(alloc);
+    let mut sides = Seq::new(parser.alloc);
     sides.push(first)?;
-    let mut arrows = Seq::new(alloc);
+    let mut arrows = Seq::new(parser.alloc);
     let mut rest = from;
-    for _turn in 0..turns {
-        if begins_arrow(tokens, rest) {
-            let ((arrow, side), more) = link(alloc, limit, tokens, rest)?;
-            sides.push(side)?;
-            arrows.push(arrow)?;
-            rest = more;
-        } else {
+    for _turn in 0..turns(parser.tokens, from) {
+        if !begins_arrow(parser.tokens, rest) {
             return Ok(((sides, arrows), rest));
         }
+        let ((arrow, side), more) = link(parser, rest)?;
+        sides.push(side)?;
+        arrows.push(arrow)?;
+        rest = more;
     }
     Err(Misread::Form(rest))
 }
 
-fn sides(
-    alloc: Global,
-    limit: usize,
-    tokens: &[Token<'_>],
-    from: usize,
-) -> Read<(Seq<Operand>, Seq<Arrow>)>
-    ensures { Reads (sides_with (expr_at limit)) tokens.now from result }
+fn sides(parser: &Parser<'_>, from: usize) -> Read<(Seq<Operand>, Seq<Arrow>)>
+    ensures { Reads (sides_with (expr_at parser.now.limit)) parser.now.tokens.now from result }
 {
-    let (first, rest) = operand(alloc, limit, tokens, from)?;
-    sides_behind(alloc, limit, first, turns(tokens, rest), tokens, rest)
+    let (first, rest) = operand(parser, from)?;
+    sides_behind(parser, first, rest)
 }
 
 fn is_named(operand: &Operand) -> bool
@@ -92,40 +84,34 @@ fn chain_of(index: usize, at: u32, sides: Seq<Operand>, arrows: Seq<Arrow>) -> R
 }
 
 /// Operands with arrows between them.
-pub fn chain(alloc: Global, limit: usize, tokens: &[Token<'_>], from: usize) -> Read<Stmt>
-    ensures { Reads (chain_with (expr_at limit)) tokens.now from result }
+pub fn chain(parser: &Parser<'_>, from: usize) -> Read<Stmt>
+    ensures { Reads (chain_with (expr_at parser.now.limit)) parser.now.tokens.now from result }
 {
-    let ((sides, arrows), rest) = sides(alloc, limit, tokens, from)?;
-    let stmt = chain_of(rest, first_at(tokens, from), sides, arrows)?;
+    let ((sides, arrows), rest) = sides(parser, from)?;
+    let stmt = chain_of(rest, first_at(parser.tokens, from), sides, arrows)?;
     Ok((stmt, rest))
 }
 
 /// An assignment.
-pub fn assign(alloc: Global, limit: usize, tokens: &[Token<'_>], from: usize) -> Read<Stmt>
-    ensures { Reads (assign_with (expr_at limit)) tokens.now from result }
+pub fn assign(parser: &Parser<'_>, from: usize) -> Read<Stmt>
+    ensures { Reads (assign_with (expr_at parser.now.limit)) parser.now.tokens.now from result }
 {
-    let (name, rest) = variable(alloc, tokens, from)?;
-    let (_, rest) = expect(Kind::Sign, "=", tokens, rest)?;
-    let (value, rest) = expr(alloc, limit, tokens, rest)?;
-    let at = first_at(tokens, from);
+    let (name, rest) = variable(parser, from)?;
+    let (_, rest) = expect(Kind::Sign, "=", parser.tokens, rest)?;
+    let (value, rest) = expr(parser, rest)?;
+    let at = first_at(parser.tokens, from);
     Ok((Stmt::Assign { at, name, value }, rest))
 }
 
-fn bracketed(
-    alloc: Global,
-    limit: usize,
-    turns: usize,
-    tokens: &[Token<'_>],
-    from: usize,
-) -> Read<Seq<Expr>>
-    ensures { Reads (items (codes ")") (expr_at limit) turns) tokens.now from result }
+fn bracketed(parser: &Parser<'_>, from: usize) -> Read<Seq<Expr>>
+    ensures { Reads (bracketed_with (expr_at parser.now.limit)) parser.now.tokens.now from result }
 {
-    let mut found = Seq::new(alloc);
+    let mut found = Seq::new(parser.alloc);
     let mut rest = from;
-    for _turn in 0..turns {
-        let (item, more) = expr(alloc, limit, tokens, rest)?;
+    for _turn in 0..turns(parser.tokens, from) {
+        let (item, more) = expr(parser, rest)?;
         found.push(item)?;
-        let (ends, more) = separator(")", tokens, more)?;
+        let (ends, more) = separator(")", parser.tokens, more)?;
         if ends {
             return Ok((found, more));
         }
@@ -134,67 +120,60 @@ fn bracketed(
     Err(Misread::Form(rest))
 }
 
-fn next_arg(alloc: Global, limit: usize, tokens: &[Token<'_>], from: usize) -> Read<Expr>
-    ensures { Reads (behind kind.Sign (codes ",") (expr_at limit)) tokens.now from result }
+fn next_arg(parser: &Parser<'_>, from: usize) -> Read<Expr>
+    ensures { Reads (behind kind.Sign (codes ",") (expr_at parser.now.limit)) parser.now.tokens.now from result }
 {
-    let (_, rest) = expect(Kind::Sign, ",", tokens, from)?;
-    expr(alloc, limit, tokens, rest)
+    let (_, rest) = expect(Kind::Sign, ",", parser.tokens, from)?;
+    expr(parser, rest)
 }
 
 /// Arguments from the first on, without brackets.
-fn args_behind(
-    alloc: Global,
-    limit: usize,
-    first: Expr,
-    turns: usize,
-    tokens: &[Token<'_>],
-    from: usize,
-) -> Read<Seq<Expr>>
-    ensures { Reads (λ ts. with_front (first ∷ []) (more_args (expr_at limit) turns ts)) tokens.now from result }
+fn args_behind(parser: &Parser<'_>, first: Expr, from: usize) -> Read<Seq<Expr>>
+    ensures { Reads (λ ts. with_front (first ∷ []) (more_args (expr_at parser.now.limit) (length ts + 1) ts))
+        parser.now.tokens.now from result }
 {
-    let mut found = Seq::new(alloc);
+    let mut found = Seq::new(parser.alloc);
     found.push(first)?;
     let mut rest = from;
-    for _turn in 0..turns {
-        if begins(Kind::Sign, ",", tokens, rest) {
-            let (item, more) = next_arg(alloc, limit, tokens, rest)?;
-            found.push(item)?;
-            rest = more;
-        } else {
+    for _turn in 0..turns(parser.tokens, from) {
+        if !begins(Kind::Sign, ",", parser.tokens, rest) {
             return Ok((found, rest));
         }
+        let (item, more) = next_arg(parser, rest)?;
+        found.push(item)?;
+        rest = more;
     }
     Err(Misread::Form(rest))
 }
 
-fn bare(alloc: Global, limit: usize, tokens: &[Token<'_>], from: usize) -> Read<Seq<Expr>>
-    ensures { Reads (bare_with (expr_at limit)) tokens.now from result }
+fn bare(parser: &Parser<'_>, from: usize) -> Read<Seq<Expr>>
+    ensures { Reads (bare_with (expr_at parser.now.limit)) parser.now.tokens.now from result }
 {
-    let (first, rest) = expr(alloc, limit, tokens, from)?;
-    args_behind(alloc, limit, first, turns(tokens, rest), tokens, rest)
+    let (first, rest) = expr(parser, from)?;
+    args_behind(parser, first, rest)
 }
 
 /// The arguments of a call, with or without brackets.
-fn args(alloc: Global, limit: usize, tokens: &[Token<'_>], from: usize) -> Read<Seq<Expr>>
-    ensures { Reads (args_with (expr_at limit)) tokens.now from result }
+fn args(parser: &Parser<'_>, from: usize) -> Read<Seq<Expr>>
+    ensures { Reads (args_with (expr_at parser.now.limit)) parser.now.tokens.now from result }
 {
-    if let Some((_, rest)) = mark(Kind::Sign, "(", tokens, from) {
-        return bracketed(alloc, limit, turns(tokens, rest), tokens, rest);
+    if let Some((_, rest)) = mark(Kind::Sign, "(", parser.tokens, from) {
+        return bracketed(parser, rest);
     }
-    if begins_bracket(tokens, from) {
+    if begins_bracket(parser.tokens, from) {
         return Err(Misread::Form(from));
     }
-    bare(alloc, limit, tokens, from)
+    bare(parser, from)
 }
 
 /// A call of a function.
-pub fn call(alloc: Global, limit: usize, tokens: &[Token<'_>], from: usize) -> Read<Stmt>
-    ensures { Reads (call_with (expr_at limit)) tokens.now from result }
+pub fn call(parser: &Parser<'_>, from: usize) -> Read<Stmt>
+    ensures { Reads (call_with (expr_at parser.now.limit)) parser.now.tokens.now from result }
 {
-    match function_at(tokens, from) {
+    match function_at(parser.tokens, from) {
         Some((func, rest)) => {
-            let (args, rest) = args(alloc, limit, tokens, rest)?;
-            let at = first_at(tokens, from);
+            let (args, rest) = args(parser, rest)?;
+            let at = first_at(parser.tokens, from);
             Ok((Stmt::Call { at, func, args }, rest))
         }
         None => Err(Misread::Form(from)),

@@ -1,7 +1,7 @@
 //! The tokens that stand for names, functions and arrows.
 ghost use Rattle.std.specs.Prelude.{◌≡◌, drop, [], ◌∷◌, codes};
 ghost use Rattle.std.specs.Option.{option_map};
-ghost use Rattle.pp_syntax.specs.Lexing.{told};
+ghost use Rattle.pp_syntax.specs.Lexing.{lexemes_of};
 ghost use Rattle.pp_syntax.specs.Tokens.{is_among};
 ghost use Rattle.pp_syntax.specs.Statements.{is_qualified};
 ghost use Rattle.pp_readers.specs.Parsed.{Gives, Reads, Sees};
@@ -10,6 +10,7 @@ ghost use Rattle.pp_syntax.specs.Statements.{function_of};
 ghost use Rattle.pp_readers.specs.Names.{taken, plain_name, name_by, begins_name, plain_variable, variable_by, ref_by, function_by, unless_function, type_by, arrow_by, begins_arrow, begins_bracket};
 ghost use Rattle.pp_readers.specs.Statements.{unclosed};
 
+use crate::parser::Parser;
 use pp_expression::{front_of, mark, name_of, text_of};
 use pp_readers::{Misread, Read};
 use pp_syntax::{Arrow, Func, Kind, Token};
@@ -39,7 +40,7 @@ fn name_by(kind: Kind, text: &str) -> Option<&str>
 }
 
 fn name_at<'a, 't>(tokens: &'a [Token<'t>], from: usize) -> Option<(&'t str, usize)>
-    ensures { option_map (λ x. (x.0.now, drop x.1 (told tokens.now))) result ≡ taken name_by (drop from (told tokens.now)) }
+    ensures { option_map (λ x. (x.0.now, drop x.1 (lexemes_of tokens.now))) result ≡ taken name_by (drop from (lexemes_of tokens.now)) }
 {
     let (token, rest) = front_of(tokens, from)?;
     let name = name_by(token.kind, token.text)?;
@@ -48,7 +49,7 @@ fn name_at<'a, 't>(tokens: &'a [Token<'t>], from: usize) -> Option<(&'t str, usi
 
 /// An attribute's name stands at this index.
 pub fn begins_name(tokens: &[Token<'_>], from: usize) -> bool
-    ensures { result ≡ begins_name (drop from (told tokens.now)) }
+    ensures { result ≡ begins_name (drop from (lexemes_of tokens.now)) }
 {
     match name_at(tokens, from) {
         Some(_) => true,
@@ -57,12 +58,12 @@ pub fn begins_name(tokens: &[Token<'_>], from: usize) -> bool
 }
 
 /// An attribute's name, and the index behind it.
-pub fn name(alloc: Global, tokens: &[Token<'_>], from: usize) -> Read<Text>
-    ensures { Reads (taken name_by) tokens.now from result }
+pub fn name(parser: &Parser<'_>, from: usize) -> Read<Text>
+    ensures { Reads (taken name_by) parser.now.tokens.now from result }
 {
-    match name_at(tokens, from) {
+    match name_at(parser.tokens, from) {
         Some((name, rest)) => {
-            let name = text_of(alloc, name)?;
+            let name = text_of(parser.alloc, name)?;
             Ok((name, rest))
         }
         None => Err(Misread::Form(from)),
@@ -79,7 +80,7 @@ fn ref_by(kind: Kind, text: &str) -> Option<&str>
 }
 
 fn ref_at<'a, 't>(tokens: &'a [Token<'t>], from: usize) -> Option<(&'t str, usize)>
-    ensures { option_map (λ x. (x.0.now, drop x.1 (told tokens.now))) result ≡ taken ref_by (drop from (told tokens.now)) }
+    ensures { option_map (λ x. (x.0.now, drop x.1 (lexemes_of tokens.now))) result ≡ taken ref_by (drop from (lexemes_of tokens.now)) }
 {
     let (token, rest) = front_of(tokens, from)?;
     let name = ref_by(token.kind, token.text)?;
@@ -87,12 +88,12 @@ fn ref_at<'a, 't>(tokens: &'a [Token<'t>], from: usize) -> Option<(&'t str, usiz
 }
 
 /// The name of a kind of resources as references have it.
-pub fn ref_name(alloc: Global, tokens: &[Token<'_>], from: usize) -> Read<Text>
-    ensures { Reads (taken ref_by) tokens.now from result }
+pub fn ref_name(parser: &Parser<'_>, from: usize) -> Read<Text>
+    ensures { Reads (taken ref_by) parser.now.tokens.now from result }
 {
-    match ref_at(tokens, from) {
+    match ref_at(parser.tokens, from) {
         Some((name, rest)) => {
-            let name = text_of(alloc, name)?;
+            let name = text_of(parser.alloc, name)?;
             Ok((name, rest))
         }
         None => Err(Misread::Form(from)),
@@ -119,12 +120,12 @@ fn plain_variable(alloc: Global, index: usize, text: &str) -> Result<Text, Misre
 }
 
 /// A variable's name, without `$`.
-pub fn variable(alloc: Global, tokens: &[Token<'_>], from: usize) -> Read<Text>
-    ensures { Reads (taken variable_by) tokens.now from result }
+pub fn variable(parser: &Parser<'_>, from: usize) -> Read<Text>
+    ensures { Reads (taken variable_by) parser.now.tokens.now from result }
 {
-    match front_of(tokens, from) {
+    match front_of(parser.tokens, from) {
         Some((token, rest)) => {
-            let name = variable_by(alloc, from, token.kind, token.text)?;
+            let name = variable_by(parser.alloc, from, token.kind, token.text)?;
             Ok((name, rest))
         }
         None => Err(Misread::Form(from)),
@@ -168,7 +169,7 @@ fn type_by(kind: Kind, text: &str) -> Option<&str>
 }
 
 fn type_at<'a, 't>(tokens: &'a [Token<'t>], from: usize) -> Option<(&'t str, usize)>
-    ensures { option_map (λ x. (x.0.now, drop x.1 (told tokens.now))) result ≡ taken type_by (drop from (told tokens.now)) }
+    ensures { option_map (λ x. (x.0.now, drop x.1 (lexemes_of tokens.now))) result ≡ taken type_by (drop from (lexemes_of tokens.now)) }
 {
     let (token, rest) = front_of(tokens, from)?;
     let name = type_by(token.kind, token.text)?;
@@ -176,12 +177,12 @@ fn type_at<'a, 't>(tokens: &'a [Token<'t>], from: usize) -> Option<(&'t str, usi
 }
 
 /// A resource's type.
-pub fn type_name(alloc: Global, tokens: &[Token<'_>], from: usize) -> Read<Text>
-    ensures { Reads (taken type_by) tokens.now from result }
+pub fn type_name(parser: &Parser<'_>, from: usize) -> Read<Text>
+    ensures { Reads (taken type_by) parser.now.tokens.now from result }
 {
-    match type_at(tokens, from) {
+    match type_at(parser.tokens, from) {
         Some((name, rest)) => {
-            let name = text_of(alloc, name)?;
+            let name = text_of(parser.alloc, name)?;
             Ok((name, rest))
         }
         None => Err(Misread::Form(from)),
@@ -208,7 +209,7 @@ pub fn arrow_at(tokens: &[Token<'_>], from: usize) -> Option<(Arrow, usize)>
 
 /// An arrow stands at this index.
 pub fn begins_arrow(tokens: &[Token<'_>], from: usize) -> bool
-    ensures { result ≡ begins_arrow (drop from (told tokens.now)) }
+    ensures { result ≡ begins_arrow (drop from (lexemes_of tokens.now)) }
 {
     match arrow_at(tokens, from) {
         Some(_) => true,
@@ -218,7 +219,7 @@ pub fn begins_arrow(tokens: &[Token<'_>], from: usize) -> bool
 
 /// A token of this kind and text stands at this index.
 pub fn begins(kind: Kind, text: &str, tokens: &[Token<'_>], from: usize) -> bool
-    ensures { result ≡ begins kind text.now (drop from (told tokens.now)) }
+    ensures { result ≡ begins kind text.now (drop from (lexemes_of tokens.now)) }
 {
     match mark(kind, text, tokens, from) {
         Some(_) => true,
@@ -228,7 +229,7 @@ pub fn begins(kind: Kind, text: &str, tokens: &[Token<'_>], from: usize) -> bool
 
 /// No `}` stands at this index.
 pub fn unclosed(tokens: &[Token<'_>], from: usize) -> bool
-    ensures { result ≡ unclosed (drop from (told tokens.now)) }
+    ensures { result ≡ unclosed (drop from (lexemes_of tokens.now)) }
 {
     !begins(Kind::Sign, "}", tokens, from)
 }
@@ -243,7 +244,7 @@ fn is_bracket(text: &str) -> bool
 
 /// The token at this index is spelled `(` or `{`.
 pub fn begins_bracket(tokens: &[Token<'_>], from: usize) -> bool
-    ensures { result ≡ begins_bracket (drop from (told tokens.now)) }
+    ensures { result ≡ begins_bracket (drop from (lexemes_of tokens.now)) }
 {
     match front_of(tokens, from) {
         Some((token, _)) => is_bracket(token.text),

@@ -1,5 +1,5 @@
 //! The parser of searches.
-ghost use Rattle.std.specs.Prelude.{◌≡◌, codes, [], ◌∷◌};
+ghost use Rattle.std.specs.Prelude.{◌≡◌, ◌+◌, codes, [], ◌∷◌, length};
 ghost use Rattle.pp_syntax.specs.declared.token.Kind.TheVariants as kind;
 ghost use Rattle.pp_readers.specs.Parsed.{Gives, Reads};
 ghost use Rattle.pp_readers.specs.Expressions.{with_front, expr_at, postfix_with};
@@ -8,256 +8,166 @@ ghost use Rattle.pp_readers.specs.Statements.{equal_with, differ_with, compared_
 
 use crate::expressions::postfix;
 use crate::marks::{begins, name};
+use crate::parser::Parser;
 use pp_expression::{expect, mark, turns};
 use pp_readers::{Misread, Read};
-use pp_syntax::{Kind, Search, Token};
+use pp_syntax::{Kind, Search};
 use rh_base::{Seq, Text};
-use std::alloc::Global;
 
-fn equal(alloc: Global, limit: usize, name: Text, tokens: &[Token<'_>], from: usize) -> Read<Search>
-    ensures { Reads (equal_with (postfix_with (expr_at limit)) name) tokens.now from result }
+fn equal(parser: &Parser<'_>, name: Text, from: usize) -> Read<Search>
+    ensures { Reads (equal_with (postfix_with (expr_at parser.now.limit)) name) parser.now.tokens.now from result }
 {
-    let (value, rest) = postfix(alloc, limit, tokens, from)?;
+    let (value, rest) = postfix(parser, from)?;
     Ok((Search::Equal(name, value), rest))
 }
 
-fn differ(
-    alloc: Global,
-    limit: usize,
-    name: Text,
-    tokens: &[Token<'_>],
-    from: usize,
-) -> Read<Search>
-    ensures { Reads (differ_with (postfix_with (expr_at limit)) name) tokens.now from result }
+fn differ(parser: &Parser<'_>, name: Text, from: usize) -> Read<Search>
+    ensures { Reads (differ_with (postfix_with (expr_at parser.now.limit)) name) parser.now.tokens.now from result }
 {
-    let (_, rest) = expect(Kind::Sign, "!=", tokens, from)?;
-    let (value, rest) = postfix(alloc, limit, tokens, rest)?;
+    let (_, rest) = expect(Kind::Sign, "!=", parser.tokens, from)?;
+    let (value, rest) = postfix(parser, rest)?;
     Ok((Search::Differ(name, value), rest))
 }
 
 /// What stands behind an attribute's name.
-fn compared(
-    alloc: Global,
-    limit: usize,
-    name: Text,
-    tokens: &[Token<'_>],
-    from: usize,
-) -> Read<Search>
-    ensures { Reads (compared_with (postfix_with (expr_at limit)) name) tokens.now from result }
+fn compared(parser: &Parser<'_>, name: Text, from: usize) -> Read<Search>
+    ensures { Reads (compared_with (postfix_with (expr_at parser.now.limit)) name) parser.now.tokens.now from result }
 {
-    if let Some((_, rest)) = mark(Kind::Sign, "==", tokens, from) {
-        return equal(alloc, limit, name, tokens, rest);
+    if let Some((_, rest)) = mark(Kind::Sign, "==", parser.tokens, from) {
+        return equal(parser, name, rest);
     }
-    differ(alloc, limit, name, tokens, from)
+    differ(parser, name, from)
 }
 
-fn comparison(alloc: Global, limit: usize, tokens: &[Token<'_>], from: usize) -> Read<Search>
-    ensures { Reads (comparison_with (postfix_with (expr_at limit))) tokens.now from result }
+fn comparison(parser: &Parser<'_>, from: usize) -> Read<Search>
+    ensures { Reads (comparison_with (postfix_with (expr_at parser.now.limit))) parser.now.tokens.now from result }
 {
-    let (name, rest) = name(alloc, tokens, from)?;
-    compared(alloc, limit, name, tokens, rest)
+    let (name, rest) = name(parser, from)?;
+    compared(parser, name, rest)
 }
 
 #[cycle(search)]
-fn enclosed(
-    alloc: Global,
-    limit: usize,
-    depth: usize,
-    tokens: &[Token<'_>],
-    from: usize,
-) -> Read<Search>
-    ensures { Reads (before (search_at (postfix_with (expr_at limit)) depth) kind.Sign (codes ")")) tokens.now from result }
+fn enclosed(parser: &Parser<'_>, depth: usize, from: usize) -> Read<Search>
+    ensures { Reads (before (search_at (postfix_with (expr_at parser.now.limit)) depth) kind.Sign (codes ")"))
+        parser.now.tokens.now from result }
 {
-    let (found, rest) = search(alloc, limit, depth, tokens, from)?;
-    let (_, rest) = expect(Kind::Sign, ")", tokens, rest)?;
+    let (found, rest) = search(parser, depth, from)?;
+    let (_, rest) = expect(Kind::Sign, ")", parser.tokens, rest)?;
     Ok((found, rest))
 }
 
 #[cycle(search)]
-fn atom(
-    alloc: Global,
-    limit: usize,
-    depth: usize,
-    tokens: &[Token<'_>],
-    from: usize,
-) -> Read<Search>
-    ensures { Reads (atom_with (postfix_with (expr_at limit)) (search_at (postfix_with (expr_at limit)) depth)) tokens.now from result }
+fn atom(parser: &Parser<'_>, depth: usize, from: usize) -> Read<Search>
+    ensures { Reads (atom_with (postfix_with (expr_at parser.now.limit)) (search_at (postfix_with (expr_at parser.now.limit)) depth))
+        parser.now.tokens.now from result }
 {
-    if let Some((_, rest)) = mark(Kind::Sign, "(", tokens, from) {
-        return enclosed(alloc, limit, depth, tokens, rest);
+    if let Some((_, rest)) = mark(Kind::Sign, "(", parser.tokens, from) {
+        return enclosed(parser, depth, rest);
     }
-    comparison(alloc, limit, tokens, from)
+    comparison(parser, from)
 }
 
 #[cycle(search)]
-fn next_atom(
-    alloc: Global,
-    limit: usize,
-    depth: usize,
-    tokens: &[Token<'_>],
-    from: usize,
-) -> Read<Search>
+fn next_atom(parser: &Parser<'_>, depth: usize, from: usize) -> Read<Search>
     ensures { Reads (behind kind.Keyword (codes "and")
-        (atom_with (postfix_with (expr_at limit))
-        (search_at (postfix_with (expr_at limit)) depth))) tokens.now from result }
+        (atom_with (postfix_with (expr_at parser.now.limit))
+        (search_at (postfix_with (expr_at parser.now.limit)) depth))) parser.now.tokens.now from result }
 {
-    let (_, rest) = expect(Kind::Keyword, "and", tokens, from)?;
-    atom(alloc, limit, depth, tokens, rest)
+    let (_, rest) = expect(Kind::Keyword, "and", parser.tokens, from)?;
+    atom(parser, depth, rest)
 }
 
 #[cycle(search)]
-fn ands(
-    alloc: Global,
-    limit: usize,
-    depth: usize,
-    first: Search,
-    turns: usize,
-    tokens: &[Token<'_>],
-    from: usize,
-) -> Read<Seq<Search>>
+fn ands(parser: &Parser<'_>, depth: usize, first: Search, from: usize) -> Read<Seq<Search>>
     ensures { Reads (λ ts. with_front (first ∷ [])
-        (ands_with (postfix_with (expr_at limit))
-        (search_at (postfix_with (expr_at limit)) depth) turns ts)) tokens.now from result }
+        (ands_with (postfix_with (expr_at parser.now.limit))
+        (search_at (postfix_with (expr_at parser.now.limit)) depth) (length ts + 1) ts)) parser.now.tokens.now from result }
 {
-    let mut found = Seq::new(alloc);
+    let mut found = Seq::new(parser.alloc);
     found.push(first)?;
     let mut rest = from;
-    for _turn in 0..turns {
-        if begins(Kind::Keyword, "and", tokens, rest) {
-            let (item, more) = next_atom(alloc, limit, depth, tokens, rest)?;
-            found.push(item)?;
-            rest = more;
-        } else {
+    for _turn in 0..turns(parser.tokens, from) {
+        if !begins(Kind::Keyword, "and", parser.tokens, rest) {
             return Ok((found, rest));
         }
+        let (item, more) = next_atom(parser, depth, rest)?;
+        found.push(item)?;
+        rest = more;
     }
     Err(Misread::Form(rest))
 }
 
 #[cycle(search)]
-fn conjunction(
-    alloc: Global,
-    limit: usize,
-    depth: usize,
-    tokens: &[Token<'_>],
-    from: usize,
-) -> Read<Search>
-    ensures { Reads (conjunction_with (postfix_with (expr_at limit))
-        (search_at (postfix_with (expr_at limit)) depth)) tokens.now from result }
+fn conjunction(parser: &Parser<'_>, depth: usize, from: usize) -> Read<Search>
+    ensures { Reads (conjunction_with (postfix_with (expr_at parser.now.limit))
+        (search_at (postfix_with (expr_at parser.now.limit)) depth)) parser.now.tokens.now from result }
 {
-    let (first, rest) = atom(alloc, limit, depth, tokens, from)?;
-    let (found, rest) = ands(
-        alloc,
-        limit,
-        depth,
-        first,
-        turns(tokens, rest),
-        tokens,
-        rest,
-    )?;
+    let (first, rest) = atom(parser, depth, from)?;
+    let (found, rest) = ands(parser, depth, first, rest)?;
     let all = all_of(from, found)?;
     Ok((all, rest))
 }
 
 #[cycle(search)]
-fn next_conjunction(
-    alloc: Global,
-    limit: usize,
-    depth: usize,
-    tokens: &[Token<'_>],
-    from: usize,
-) -> Read<Search>
+fn next_conjunction(parser: &Parser<'_>, depth: usize, from: usize) -> Read<Search>
     ensures { Reads (behind kind.Keyword (codes "or")
-        (conjunction_with (postfix_with (expr_at limit))
-        (search_at (postfix_with (expr_at limit)) depth))) tokens.now from result }
+        (conjunction_with (postfix_with (expr_at parser.now.limit))
+        (search_at (postfix_with (expr_at parser.now.limit)) depth))) parser.now.tokens.now from result }
 {
-    let (_, rest) = expect(Kind::Keyword, "or", tokens, from)?;
-    conjunction(alloc, limit, depth, tokens, rest)
+    let (_, rest) = expect(Kind::Keyword, "or", parser.tokens, from)?;
+    conjunction(parser, depth, rest)
 }
 
 #[cycle(search)]
-fn ors(
-    alloc: Global,
-    limit: usize,
-    depth: usize,
-    first: Search,
-    turns: usize,
-    tokens: &[Token<'_>],
-    from: usize,
-) -> Read<Seq<Search>>
+fn ors(parser: &Parser<'_>, depth: usize, first: Search, from: usize) -> Read<Seq<Search>>
     ensures { Reads (λ ts. with_front (first ∷ [])
-        (ors_with (postfix_with (expr_at limit))
-        (search_at (postfix_with (expr_at limit)) depth) turns ts)) tokens.now from result }
+        (ors_with (postfix_with (expr_at parser.now.limit))
+        (search_at (postfix_with (expr_at parser.now.limit)) depth) (length ts + 1) ts)) parser.now.tokens.now from result }
 {
-    let mut found = Seq::new(alloc);
+    let mut found = Seq::new(parser.alloc);
     found.push(first)?;
     let mut rest = from;
-    for _turn in 0..turns {
-        if begins(Kind::Keyword, "or", tokens, rest) {
-            let (item, more) = next_conjunction(alloc, limit, depth, tokens, rest)?;
-            found.push(item)?;
-            rest = more;
-        } else {
+    for _turn in 0..turns(parser.tokens, from) {
+        if !begins(Kind::Keyword, "or", parser.tokens, rest) {
             return Ok((found, rest));
         }
+        let (item, more) = next_conjunction(parser, depth, rest)?;
+        found.push(item)?;
+        rest = more;
     }
     Err(Misread::Form(rest))
 }
 
 #[cycle(search)]
-fn disjunction(
-    alloc: Global,
-    limit: usize,
-    depth: usize,
-    tokens: &[Token<'_>],
-    from: usize,
-) -> Read<Search>
-    ensures { Reads (search_with (postfix_with (expr_at limit)) (search_at (postfix_with (expr_at limit)) depth)) tokens.now from result }
+fn disjunction(parser: &Parser<'_>, depth: usize, from: usize) -> Read<Search>
+    ensures { Reads (search_with (postfix_with (expr_at parser.now.limit)) (search_at (postfix_with (expr_at parser.now.limit)) depth))
+        parser.now.tokens.now from result }
 {
-    let (first, rest) = conjunction(alloc, limit, depth, tokens, from)?;
-    let (found, rest) = ors(
-        alloc,
-        limit,
-        depth,
-        first,
-        turns(tokens, rest),
-        tokens,
-        rest,
-    )?;
+    let (first, rest) = conjunction(parser, depth, from)?;
+    let (found, rest) = ors(parser, depth, first, rest)?;
     let any = any_of(from, found)?;
     Ok((any, rest))
 }
 
 /// A search, with brackets nested less deep than this.
 #[cycle(search)]
-fn search(
-    alloc: Global,
-    limit: usize,
-    depth: usize,
-    tokens: &[Token<'_>],
-    from: usize,
-) -> Read<Search>
-    ensures { Reads (search_at (postfix_with (expr_at limit)) depth) tokens.now from result }
+fn search(parser: &Parser<'_>, depth: usize, from: usize) -> Read<Search>
+    ensures { Reads (search_at (postfix_with (expr_at parser.now.limit)) depth) parser.now.tokens.now from result }
 {
     if depth == 0 {
         return Err(Misread::Form(from));
     }
-    disjunction(alloc, limit, depth - 1, tokens, from)
+    disjunction(parser, depth - 1, from)
 }
 
 /// The search of a collector, or none.
-pub fn sought(
-    alloc: Global,
-    limit: usize,
-    tokens: &[Token<'_>],
-    from: usize,
-) -> Read<Option<Search>>
-    ensures { Reads (sought_with (postfix_with (expr_at limit))) tokens.now from result }
+pub fn sought(parser: &Parser<'_>, from: usize) -> Read<Option<Search>>
+    ensures { Reads (sought_with (postfix_with (expr_at parser.now.limit))) parser.now.tokens.now from result }
 {
-    if begins(Kind::Sign, "|>", tokens, from) {
+    if begins(Kind::Sign, "|>", parser.tokens, from) {
         return Ok((None, from));
     }
-    let (found, rest) = search(alloc, limit, turns(tokens, from), tokens, from)?;
+    let (found, rest) = search(parser, turns(parser.tokens, from), from)?;
     Ok((Some(found), rest))
 }
 

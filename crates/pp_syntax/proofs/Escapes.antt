@@ -6,7 +6,8 @@ use Rattle.std.proofs.lemmas.Bool.{and_parts, eqb-true, eqb-false, ltb-true, leb
 use Rattle.pp_syntax.specs.Bytes.{is_hex}
 use Rattle.pp_syntax.specs.Tokens.{Escape, simple, four, braced, NoEscape, is_simple_escape, is_scalar, hex_value}
 use Rattle.pp_syntax.specs.Scanning.{after_all, begins_with, braced_by, braced_len, four_len, unicode_len, escape_len}
-use Rattle.pp_syntax.proofs.Steps.{all_takes, front_is, cond_some}
+use Rattle.pp_syntax.proofs.Steps.{all_takes, front_is}
+use Rattle.std.proofs.lemmas.Option.{cond_some}
 
 -- the first n bytes of the text behind a backslash make an escape with it
 pub record EscapeFound (text : List ℕ) (n : ℕ) : Type 0 where
@@ -68,7 +69,7 @@ four_found (a ∷ b ∷ c ∷ d ∷ text) n h =
     }
 
 -- an image comes from a value
-map_some : {A B : Type 0} (f : A → B) (r : Option A) (y : B) → option_map f r ≡ Some y → (x : A) × (r ≡ Some x) × (f x ≡ y)
+pub map_some : {A B : Type 0} (f : A → B) (r : Option A) (y : B) → option_map f r ≡ Some y → (x : A) × (r ≡ Some x) × (f x ≡ y)
 map_some f None y h = cc
 map_some f (Some x) y h = (x, refl, cc)
 

@@ -18,7 +18,7 @@ use Rattle.pp_syntax.specs.declared.token.Token.{Token}
 use Rattle.rh_base.specs.declared.fault.Fault as rh
 use Rattle.rh_base.specs.declared.fault.Fault.TheVariants as faults
 use Rattle.rh_base.specs.Refused.{IfRefused, IsRefusal}
-use Rattle.pp_syntax.specs.Lexing.{lexeme_of, told, Cut, IsLexicalRefusal}
+use Rattle.pp_syntax.specs.Lexing.{lexeme_of, lexemes_of, Cut, IsLexicalRefusal}
 use Rattle.pp_syntax.proofs.Seams.{LastAscii, Seam, boundary, code_last, gap_seam, quoted_seam}
 
 -- a text is cut behind a front that ends or is followed by an ASCII byte
@@ -147,7 +147,7 @@ completes_token source before p k text s rest e h c tokens end r =
     subst (λ (l : List Lexeme). Reads start source l end) (sym (append_assoc before (record { kind = k; text = s; at = p.at } ∷ []) tokens)) (c (record { kind = k; text = s; at = p.at } ∷ tokens) end (token k s rest tokens e h refl r))
 
 -- one more token is one more for the definitions
-pub told-append : (xs : List Token) (t : Token) → told (xs ++ t ∷ []) ≡ told xs ++ lexeme_of t ∷ []
+pub told-append : (xs : List Token) (t : Token) → lexemes_of (xs ++ t ∷ []) ≡ lexemes_of xs ++ lexeme_of t ∷ []
 told-append [] t = refl
 told-append (x ∷ xs) t = ap (λ (l : List Lexeme). lexeme_of x ∷ l) (told-append xs t)
 
@@ -166,19 +166,19 @@ gap_turn source before p now text rest front more passed u found is_front is_res
 
 -- A turn of the loop goes past a token.
 pub token_turn : (source : List ℕ) (before after : List Token) (t : Token) (p now : Place) (k : Kind) (text rest front more passed : List ℕ) → IsUtf8 text → token_at p text ≡ Some (k, rest) → front ≡ take (length text - length rest) text → more ≡ rest
-    → passed ≡ front → now ≡ behind p k passed → after ≡ before ++ t ∷ [] → lexeme_of t ≡ record { kind = k; text = front; at = p.at } → p.at + length text ≡ length source → Completes source (told before) p text
-    → Completes source (told after) now more × (now.at + length more ≡ length source) × IsUtf8 more × (length more < length text)
+    → passed ≡ front → now ≡ behind p k passed → after ≡ before ++ t ∷ [] → lexeme_of t ≡ record { kind = k; text = front; at = p.at } → p.at + length text ≡ length source → Completes source (lexemes_of before) p text
+    → Completes source (lexemes_of after) now more × (now.at + length more ≡ length source) × IsUtf8 more × (length more < length text)
 token_turn source before after t p now k text rest front more passed u found is_front is_rest is_passed is_now is_after is_token sizes reads =
     let g = token_cut p text k rest u found in
     let s : List ℕ = take (length text - length rest) text in
     let now_is : now ≡ behind p k s = is_now ∙ ap (behind p k) (is_passed ∙ is_front) in
     let lexeme : Lexeme = record { kind = k; text = s; at = p.at } in
-    let told_is : told after ≡ told before ++ lexeme ∷ [] = ap told is_after ∙ told-append before t ∙ ap (λ (l : Lexeme). told before ++ l ∷ []) (is_token ∙ ap (λ (f : List ℕ). record { kind = k; text = f; at = p.at }) is_front) in
-    let done : Completes source (told before ++ lexeme ∷ []) (behind p k s) rest = completes_token source (told before) p k text s rest g.0.whole g.1 reads in
+    let told_is : lexemes_of after ≡ lexemes_of before ++ lexeme ∷ [] = ap lexemes_of is_after ∙ told-append before t ∙ ap (λ (l : Lexeme). lexemes_of before ++ l ∷ []) (is_token ∙ ap (λ (f : List ℕ). record { kind = k; text = f; at = p.at }) is_front) in
+    let done : Completes source (lexemes_of before ++ lexeme ∷ []) (behind p k s) rest = completes_token source (lexemes_of before) p k text s rest g.0.whole g.1 reads in
     let at_is : now.at ≡ p.at + length s = ap (λ (q : Place). q.at) now_is in
     let size : length more ≡ length rest = ap length is_rest in (
       subst (λ (l : List Lexeme). Completes source l now more) (sym told_is)
-          (subst (λ (q : Place). Completes source (told before ++ lexeme ∷ []) q more) (sym now_is) (subst (λ (r : List ℕ). Completes source (told before ++ lexeme ∷ []) (behind p k s) r) (sym is_rest) done)),
+          (subst (λ (q : Place). Completes source (lexemes_of before ++ lexeme ∷ []) q more) (sym now_is) (subst (λ (r : List ℕ). Completes source (lexemes_of before ++ lexeme ∷ []) (behind p k s) r) (sym is_rest) done)),
       omega (arith, at_is, size, g.0.size, sizes),
       subst (λ (r : List ℕ). IsUtf8 r) (sym is_rest) (cut_utf8 text rest u g.0),
       omega (arith, size, g.0.shorter),

@@ -9,11 +9,12 @@ use Rattle.pp_syntax.specs.Tokens.{int_value}
 use Rattle.pp_syntax.specs.Bytes.{is_name}
 use Rattle.pp_syntax.specs.Spelling.{NoComment, Fits, IsLongest, NoNameFirst, NumberStands, kind_at, TokenAt, GapAt}
 use Rattle.pp_syntax.specs.Scanning.{Found, front_of, code_token, opens_comment, found_at, no_name_first, number_stands, checked, token_at, gap_of, gap_at}
-use Rattle.pp_syntax.proofs.Steps.{Takes, takes_short, front_is, Goes, cond_some}
+use Rattle.pp_syntax.proofs.Steps.{Takes, takes_short, front_is, Goes}
 use Rattle.pp_syntax.proofs.CodeTokens.{code_takes}
 use Rattle.pp_syntax.proofs.CodeGoes.{code_goes}
 use Rattle.pp_syntax.proofs.QuotedTokens.{quoted_takes, quoted_goes}
 use Rattle.pp_syntax.proofs.Gaps.{gap_takes, gap_reads, gap_no_token}
+use Rattle.std.proofs.lemmas.Option.{cond_some}
 
 -- ---- comments
 

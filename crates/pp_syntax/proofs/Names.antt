@@ -7,7 +7,8 @@ use Rattle.pp_syntax.specs.declared.lexer.bytes.Style.TheVariants as style
 use Rattle.pp_syntax.specs.Bytes.{is_name}
 use Rattle.pp_syntax.specs.Tokens.{Of, begins, goes_on, NoDashLast, Segment, Joined, one, another, Name}
 use Rattle.pp_syntax.specs.Scanning.{has_dashes, tail_from, segment, after_colons, next_segment, go_on, more_segments, all_segments, joined, name_behind, name}
-use Rattle.pp_syntax.proofs.Steps.{Takes, bind_some, takes_short, Leaves, takes_leaves, leaves_along}
+use Rattle.pp_syntax.proofs.Steps.{Takes, takes_short, Leaves, takes_leaves, leaves_along}
+use Rattle.rh_base.proofs.Options.{bind_some}
 
 -- two texts over a set make a text over it
 pub Of-append : (test : ℕ → Bool) (xs ys : List ℕ) → Of test xs → Of test ys → Of test (xs ++ ys)

@@ -7,10 +7,11 @@ use Rattle.pp_syntax.specs.declared.lexer.bytes.Style.TheVariants as style
 use Rattle.pp_syntax.specs.Tokens.{Name, begins, Opens, DqPiece, nothing, plain, dollar, escape, backslash, InQuotes}
 use Rattle.pp_syntax.specs.Scanning.{Found, of_kind, or_else, name, text_from, piece, hole, quoted_token}
 use Rattle.pp_syntax.specs.Scanning as scanning
-use Rattle.pp_syntax.proofs.Steps.{Takes, leaves_by, Goes, goes_by, goes_along, cond_some}
+use Rattle.pp_syntax.proofs.Steps.{Takes, leaves_by, Goes, goes_by, goes_along}
 use Rattle.pp_syntax.proofs.Names.{joined_first, name_takes, name_reaches}
 use Rattle.pp_syntax.proofs.Quoted.{text_takes, piece_reads}
 use Rattle.pp_syntax.proofs.Signs.{either_found}
+use Rattle.std.proofs.lemmas.Option.{cond_some}
 
 -- if a token is found within double quotes, what it takes from the front is a spelling of its kind there
 abbrev pub InText : Found → List ℕ → Type 0
@@ -127,7 +128,7 @@ abbrev Begun : ℕ → List ℕ → Type 0
 Begun b text = (b ≢ 34) × (b ≡ 36 → ¬ (Opens text))
 
 -- equal texts have the same first byte and the same rest
-same_first : (b c : ℕ) (s t : List ℕ) → ◌≡◌ {A = List ℕ} (b ∷ s) (c ∷ t) → (b ≡ c) × (s ≡ t)
+pub same_first : (b c : ℕ) (s t : List ℕ) → ◌≡◌ {A = List ℕ} (b ∷ s) (c ∷ t) → (b ≡ c) × (s ≡ t)
 same_first b c s t h = (cc, cc)
 
 -- text in double quotes begins with no double quote and with no `$` that makes something

@@ -13,9 +13,9 @@ use Rattle.pp_syntax.specs.Tokens.{Of, SomeOf, begins, goes_on, Segment, Joined,
 use Rattle.pp_syntax.specs.Spelling.{ToClose, close, more, AtLineEnd, IsGap, blank, line, block}
 use Rattle.pp_syntax.specs.Scanning.{Found, of_kind, or_else, name, hole, piece, escape_len, opens, unit_len, past_unit, text_from, quoted_token}
 use Rattle.pp_syntax.specs.Scanning as scanning
-use Rattle.pp_syntax.proofs.Steps.{cond_some}
 use Rattle.pp_syntax.proofs.Names.{Of-append}
 use Rattle.pp_syntax.proofs.Signs.{all_pass, of_each, either_found}
+use Rattle.std.proofs.lemmas.Option.{cond_some}
 
 -- the last byte is ASCII
 abbrev pub LastAscii : List ℕ → Type 0
@@ -41,7 +41,7 @@ last_at (b ∷ []) rest h = (0, refl, h)
 last_at (b ∷ c ∷ s) rest h = let l = last_at (c ∷ s) rest h in (suc l.0, omega (arith, l.1), l.2)
 
 -- the byte behind the front is the first of the rest
-first_at : (front rest : List ℕ) (b : ℕ) → get_or (front ++ b ∷ rest) (length front) 0 ≡ b
+pub first_at : (front rest : List ℕ) (b : ℕ) → get_or (front ++ b ∷ rest) (length front) 0 ≡ b
 first_at [] rest b = refl
 first_at (c ∷ front) rest b = first_at front rest b
 

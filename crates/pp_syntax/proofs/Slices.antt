@@ -12,7 +12,7 @@ use Rattle.pp_syntax.specs.declared.lexer.place.Place.{Place}
 use Rattle.pp_syntax.specs.Opened.{Ending, Whole, Fault}
 use Rattle.pp_syntax.specs.Tokens.{Lexeme}
 use Rattle.pp_syntax.specs.Spelling.{Reads, ends, gap, token, stuck, start, behind, behind_gap, Spells, FailsAt}
-use Rattle.pp_syntax.specs.Lexing.{told, AreSlices, InOrder, IsLexicalRefusal}
+use Rattle.pp_syntax.specs.Lexing.{lexemes_of, AreSlices, InOrder, IsLexicalRefusal}
 use Rattle.pp_syntax.proofs.Readings.{one_reading}
 
 -- tokens in order from a place are so from an earlier one
@@ -79,13 +79,13 @@ same_failure source m n a b = let same = (one_reading start source a.0 b.0 (Faul
 -- ---- the answer
 
 -- tokens that are answered stand in the text at their places
-pub ok_slices : (source text : List ℕ) (r : Result (Vec Token Global) rh.Fault) → source ≡ text → IfOk r (λ v. Spells source (told v.items)) → IfOk r (λ v. AreSlices text (told v.items))
-ok_slices source text (Ok v) e h = slices text (told v.items) (subst (λ (t : List ℕ). Spells t (told v.items)) e h)
+pub ok_slices : (source text : List ℕ) (r : Result (Vec Token Global) rh.Fault) → source ≡ text → IfOk r (λ v. Spells source (lexemes_of v.items)) → IfOk r (λ v. AreSlices text (lexemes_of v.items))
+ok_slices source text (Ok v) e h = slices text (lexemes_of v.items) (subst (λ (t : List ℕ). Spells t (lexemes_of v.items)) e h)
 ok_slices source text (Err f) e h = tt
 
 -- tokens that are answered stand in order
-pub ok_order : (source : List ℕ) (r : Result (Vec Token Global) rh.Fault) → IfOk r (λ v. Spells source (told v.items)) → IfOk r (λ v. InOrder 0 (told v.items))
-ok_order source (Ok v) h = order source (told v.items) h
+pub ok_order : (source : List ℕ) (r : Result (Vec Token Global) rh.Fault) → IfOk r (λ v. Spells source (lexemes_of v.items)) → IfOk r (λ v. InOrder 0 (lexemes_of v.items))
+ok_order source (Ok v) h = order source (lexemes_of v.items) h
 ok_order source (Err f) h = tt
 
 -- where a source spells tokens, no lexical refusal is answered
@@ -94,7 +94,7 @@ not_refused source ts (faults.Refused r) h i = no_failure source ts i.0 h i.1
 not_refused source ts (faults.Memory m) h i = tt
 
 -- the tokens that a text spells are those that are answered, and no refusal is
-pub only_these : (source text : List ℕ) (r : Result (Vec Token Global) rh.Fault) → source ≡ text → IfOk r (λ v. Spells source (told v.items)) → IfErr r (λ e. IfRefused e (IsLexicalRefusal source))
-    → (ts : List Lexeme) → Spells text ts → MatchResult r (λ v. told v.items ≡ ts) (λ e. IfRefused e (λ r. ⊥))
-only_these source text (Ok v) e h i ts s = same_tokens source (told v.items) ts h (subst (λ (t : List ℕ). Spells t ts) (sym e) s)
+pub only_these : (source text : List ℕ) (r : Result (Vec Token Global) rh.Fault) → source ≡ text → IfOk r (λ v. Spells source (lexemes_of v.items)) → IfErr r (λ e. IfRefused e (IsLexicalRefusal source))
+    → (ts : List Lexeme) → Spells text ts → MatchResult r (λ v. lexemes_of v.items ≡ ts) (λ e. IfRefused e (λ r. ⊥))
+only_these source text (Ok v) e h i ts s = same_tokens source (lexemes_of v.items) ts h (subst (λ (t : List ℕ). Spells t ts) (sym e) s)
 only_these source text (Err f) e h i ts s = not_refused source ts f (subst (λ (t : List ℕ). Spells t ts) (sym e) s) i

@@ -1,5 +1,5 @@
 -- What is taken from the front of a text.
-use Rattle.std.proofs.Common.{◌≡◌, ◌⊎◌, inl, inr, ℕ, ◌-◌, ◌<◌, ◌≤◌, Bool, true, false, cond, List, [], ◌∷◌, ◌++◌, length, take, Option, Some, None, refl, sym, ap, ◌∙◌, arith, length-append}
+use Rattle.std.proofs.Common.{◌≡◌, ◌⊎◌, inl, inr, ℕ, ◌-◌, ◌<◌, ◌≤◌, Bool, true, false, cond, List, [], ◌∷◌, ◌++◌, length, take, Some, refl, sym, ap, ◌∙◌, arith, length-append}
 use Rattle.std.proofs.Math.Seq.{take-append_seam}
 use Rattle.pp_syntax.specs.Tokens.{Of}
 use Rattle.pp_syntax.specs.declared.token.Kind.{Kind}
@@ -11,11 +11,6 @@ pub record Takes (A : List ℕ → Type 0) (text rest : List ℕ) : Type 0 where
   pub front : List ℕ
   pub spelled : A front
   pub whole : text ≡ front ++ rest
-
--- where two steps find something, the first found something and the second went on from it
-pub bind_some : {A B : Type 0} (r : Option A) (f : A → Option B) (y : B) → (r >>= f) ≡ Some y → (x : A) × (r ≡ Some x) × (f x ≡ Some y)
-bind_some (Some x) f y e = (x, refl, e)
-bind_some None f y e = cc
 
 -- what a text has before its rest is its front
 pub front_is : (text front rest : List ℕ) → text ≡ front ++ rest → front_of text rest ≡ front
@@ -32,11 +27,6 @@ all_step test b text false e more = record { front = []; spelled = tt; whole = r
 pub all_takes : (test : ℕ → Bool) (text : List ℕ) → Takes (Of test) text (after_all test text)
 all_takes test [] = record { front = []; spelled = tt; whole = refl }
 all_takes test (b ∷ text) = all_step test b text (test b) refl (all_takes test text)
-
--- what is found under a condition is so, and the condition holds
-pub cond_some : {A : Type 0} (v : Bool) (x y : A) → cond v (Some x) None ≡ Some y → (v ≡ true) × (x ≡ y)
-cond_some true x y h = (refl, cc)
-cond_some false x y h = cc
 
 -- what is taken leaves no more than there was
 pub takes_short : (A : List ℕ → Type 0) (text rest : List ℕ) → Takes A text rest → length rest ≤ length text

@@ -13,8 +13,8 @@ abbrev pub lexeme_of : Token → Lexeme
 lexeme_of t = record { kind = t.kind; text = t.text.now; at = t.at }
 
 -- the tokens of the code, as definitions speak of them
-abbrev pub told : List Token → List Lexeme
-told tokens = map lexeme_of tokens
+abbrev pub lexemes_of : List Token → List Lexeme
+lexemes_of tokens = map lexeme_of tokens
 
 -- Each token's text stands in the source at its place.
 abbrev pub AreSlices : List ℕ → List Lexeme → Type 0

@@ -24,7 +24,7 @@ pub key_itself : (a : List ℕ) → bytes_eq a a ≡ true
 key_itself a = (bytes_eq-Decides a a).1 refl
 
 -- keys that are told to differ do so the other way round
-other_way : (a b : List ℕ) → bytes_eq a b ≡ false → bytes_eq b a ≡ false
+pub other_way : (a b : List ℕ) → bytes_eq a b ≡ false → bytes_eq b a ≡ false
 other_way a b h = by_test (bytes_eq b a) (bytes_eq b a ≡ false) (λ e. let clash : true ≡ false = sym (key_itself a) ∙ (ap (bytes_eq a) (sym (same_key b a e)) ∙ h) in cc) (λ e. e)
 
 module _ {X : Type 0} where

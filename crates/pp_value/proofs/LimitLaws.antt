@@ -1,7 +1,7 @@
 -- Which values exceed the limits.
 use Rattle.std.proofs.Common.{◌≡◌, ℕ, ◌-◌, ◌^◌, ◌<◌, ◌≤◌, min, Bool, true, false, ◌||◌, [], ◌∷◌, Ok, refl, ap, ◌∙◌, arith}
 use Rattle.std.specs.Prelude.{nat_lt}
-use Rattle.std.proofs.lemmas.Bool.{ltb-true, ltb-false, lt-ltb, le-ltb}
+use Rattle.std.proofs.lemmas.Bool.{ltb-true, ltb-false, lt-ltb, le-ltb, or_from}
 use Rattle.rh_base.specs.declared.limits.TheConstants.{VALUE_SIZE, VALUE_DEPTH}
 use Rattle.pp_value.specs.declared.value.Value.{Value, Row_of-Value, end_of-Value, more_of-Value, items-the_row-Value}
 use Rattle.pp_value.specs.declared.value.Value.TheVariants as v
@@ -31,14 +31,9 @@ or_left true b h = h
 or_left false b h = refl
 
 -- and so is its second
-or_right : (a b : Bool) → (a || b) ≡ false → b ≡ false
+pub or_right : (a b : Bool) → (a || b) ≡ false → b ≡ false
 or_right true b h = cc
 or_right false b h = h
-
--- where both sides are false the disjunction is
-neither : (a b : Bool) → a ≡ false → b ≡ false → (a || b) ≡ false
-neither true b h k = h
-neither false b h k = k
 
 -- a value that doesn't exceed the limits is within them
 pub within_is : (x : Value) → exceeds_limits x ≡ false → Within VALUE_SIZE VALUE_DEPTH x
@@ -50,7 +45,7 @@ within_is x h = record {
 -- and one within them doesn't exceed them
 pub is_within : (x : Value) → Within VALUE_SIZE VALUE_DEPTH x → exceeds_limits x ≡ false
 is_within x w =
-    neither _ _ (le-ltb VALUE_SIZE (size_of x) w.small) (le-ltb VALUE_DEPTH (depth_of x) w.flat)
+    or_from _ _ (le-ltb VALUE_SIZE (size_of x) w.small) (le-ltb VALUE_DEPTH (depth_of x) w.flat)
 
 module _ (size depth : ℕ) where
   -- the members of a list are within what the list is within

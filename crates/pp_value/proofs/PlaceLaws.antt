@@ -18,13 +18,13 @@ abbrev pub place_of : Entry → List ℕ × ℕ
 place_of e = (string_bytes e.0, e.1)
 
 -- tests that follow from one another are equal
-one_bool : (a b : Bool) → (a ≡ true → b ≡ true) → (b ≡ true → a ≡ true) → a ≡ b
+pub one_bool : (a b : Bool) → (a ≡ true → b ≡ true) → (b ≡ true → a ≡ true) → a ≡ b
 one_bool true b f g = sym (f refl)
 one_bool false true f g = g refl
 one_bool false false f g = refl
 
 -- texts are compared alike in both directions
-bytes_turned : (a b : List ℕ) → bytes_eq a b ≡ bytes_eq b a
+pub bytes_turned : (a b : List ℕ) → bytes_eq a b ≡ bytes_eq b a
 bytes_turned a b = one_bool _ _ (λ h. (bytes_eq-Decides b a).1 (sym ((bytes_eq-Decides a b).0 h))) (λ h. (bytes_eq-Decides a b).1 (sym ((bytes_eq-Decides b a).0 h)))
 
 -- what the map of places finds is the place of the key
@@ -49,7 +49,7 @@ added (e ∷ entries) key place h =
 -- ---- the place that is found is that of the key's pair
 
 -- places that are equal as found are equal
-some_here : (n place : ℕ) → ◌≡◌ {A = Option ℕ} (Some n) (Some place) → n ≡ place
+pub some_here : (n place : ℕ) → ◌≡◌ {A = Option ℕ} (Some n) (Some place) → n ≡ place
 some_here n place h = cc
 
 module _ {X : Type 0} where

@@ -16,6 +16,8 @@ use Rattle.pp_value.specs.Values.{Pair, Keys, keyed, value_at, passes, HasDistin
 use Rattle.pp_value.specs.Table.{equal_table}
 use Rattle.pp_value.specs.Proper.{IsProper, AreProper}
 use Rattle.pp_value.proofs.Distinct.{by_test, same_key, key_itself, at_first, at_later, AllIn, each_back}
+use Rattle.pp_value.proofs.PlaceLaws.{one_bool}
+use Rattle.std.proofs.lemmas.Bool.{and_from}
 
 -- ---- truth values
 
@@ -28,17 +30,6 @@ and_left false b h = h
 and_right : (a b : Bool) → (a && b) ≡ true → b ≡ true
 and_right true b h = h
 and_right false b h = cc
-
--- where both sides hold the conjunction does
-and_both : (a b : Bool) → a ≡ true → b ≡ true → (a && b) ≡ true
-and_both true b h k = k
-and_both false b h k = h
-
--- tests that follow from one another are equal
-one_bool : (a b : Bool) → (a ≡ true → b ≡ true) → (b ≡ true → a ≡ true) → a ≡ b
-one_bool true b f g = sym (f refl)
-one_bool false true f g = g refl
-one_bool false false f g = refl
 
 -- ---- what has no members
 
@@ -59,7 +50,7 @@ bytes_back a b h = (bytes_eq-Decides b a).1 (sym ((bytes_eq-Decides a b).0 h))
 
 -- so are references
 ref_back : (a b : Ref) → same_ref a b ≡ true → same_ref b a ≡ true
-ref_back a b h = and_both _ _ (bytes_back a.kind b.kind (and_left _ _ h)) (bytes_back a.title b.title (and_right (bytes_eq a.kind b.kind) _ h))
+ref_back a b h = and_from _ _ (bytes_back a.kind b.kind (and_left _ _ h)) (bytes_back a.title b.title (and_right (bytes_eq a.kind b.kind) _ h))
 
 -- ---- pairs
 
@@ -107,7 +98,7 @@ pairs_back : {m : _} (keys : Keys) (row : Row_of-Value m) (xs : List Pair) → H
 pairs_back [] row xs distinct f = refl
 pairs_back (k ∷ keys) end_of-Value xs distinct f = refl
 pairs_back (k ∷ keys) (more_of-Value x row) xs distinct f =
-    and_both _ _ (f k.0 x (at_first k.0 (k.0, x) (keyed keys row) (key_itself k.0)))
+    and_from _ _ (f k.0 x (at_first k.0 (k.0, x) (keyed keys row) (key_itself k.0)))
     (pairs_back keys row xs distinct.1 (λ key y h. f key y (further (k.0, x) (keyed keys row) key y distinct.0 h)))
 
 -- beside each key stands a value
@@ -144,7 +135,7 @@ mutual
       let ys = keyed others other in
       let many : length xs ≡ length ys = sym (count_keys keys row) ∙ (Decides-eqb (length keys) (length ys)).0 (and_left _ _ h) in
       let all : Alike ys xs = alike keys row others other p.1 q.1 (and_right (length keys == length ys) _ h) in
-      and_both _ _ ((Decides-eqb (length others) (length xs)).1 (count_keys others other ∙ sym many))
+      and_from _ _ ((Decides-eqb (length others) (length xs)).1 (count_keys others other ∙ sym many))
       (pairs_back others other xs q.0 (λ key y e. back_at xs ys key y (value_at key xs) refl p.0 all many e))
   same_back (v.Refer x) (v.Refer y) p q h = ref_back x y h
   same_back _ _ p q h = cc
@@ -155,7 +146,7 @@ mutual
   rows_back end_of-Value (more_of-Value y other) p q h = h
   rows_back (more_of-Value x row) end_of-Value p q h = h
   rows_back (more_of-Value x row) (more_of-Value y other) p q h =
-      and_both _ _ (same_back x y p.0 q.0 (and_left _ _ h)) (rows_back row other p.1 q.1 (and_right (same x y) _ h))
+      and_from _ _ (same_back x y p.0 q.0 (and_left _ _ h)) (rows_back row other p.1 q.1 (and_right (same x y) _ h))
 
   -- the pairs of a map that is the same as another match those of the other
   alike : {m n : _} (keys : Keys) (row : Row_of-Value m) (others : Keys) (other : Row_of-Value n) → AreProper row → AreProper other → same_pairs keys row (keyed others other) ≡ true → Alike (keyed others other) (keyed keys row)

@@ -4,6 +4,7 @@ use Rattle.std.specs.Char.{to_ascii_lowercase}
 use Rattle.std.proofs.lemmas.Slice.Eq.{bytes_eq-Decides}
 use Rattle.std.proofs.lemmas.Bool.Decides.{same_from_decides, Decides-eqb}
 use Rattle.pp_value.specs.Texts.{same_text, lowered, begins, is_part, StandsIn}
+use Rattle.std.proofs.lemmas.Bool.{or_right, or_left}
 
 -- what the library tells of two texts, ASCII case aside, is what the definition says
 pub same_is : (a b : List ℕ) (r : Bool) → (IsTrue r ↔ (map to_ascii_lowercase a ≡ map to_ascii_lowercase b)) → r ≡ same_text a b
@@ -44,16 +45,6 @@ stands_from part c text rest false e h = let s = rest h in record { front = c �
 stands : (part text : List ℕ) → is_part part text ≡ true → StandsIn part text
 stands part [] h = at_front part [] h
 stands part (c ∷ text) h = stands_from part c text (stands part text) (begins part (c ∷ text)) refl h
-
--- a disjunction holds where its first side does
-or_left : (a b : Bool) → a ≡ true → (a || b) ≡ true
-or_left true b h = refl
-or_left false b h = cc
-
--- and where its second does
-or_right : (a b : Bool) → b ≡ true → (a || b) ≡ true
-or_right true b h = refl
-or_right false b h = h
 
 -- what a text begins with is a part of it
 pub from_front : (part text : List ℕ) → begins part text ≡ true → is_part part text ≡ true

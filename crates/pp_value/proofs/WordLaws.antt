@@ -1,5 +1,5 @@
 -- Whole numbers of 64 bits with a sign.
-use Rattle.std.proofs.Common.{◌≡◌, ℤ, pos, negsuc, Bool, true, false, cond, Result, Ok, Err, refl, ap, ◌∙◌, sym, subst}
+use Rattle.std.proofs.Common.{◌≡◌, ℤ, pos, negsuc, Bool, true, false, cond, Result, Ok, Err, ap, ◌∙◌, sym, subst}
 use Rattle.std.specs.Prelude.{FitsSigned, Option, Some, None, SomeIff}
 use Rattle.std.specs.Int.{w64}
 use Rattle.std.proofs.lemmas.Bool.Decides.{Decides-ltb}
@@ -8,21 +8,17 @@ use Rattle.pp_value.specs.declared.value.Value.TheVariants as v
 use Rattle.pp_value.specs.declared.fault.Misfit.{Misfit}
 use Rattle.pp_value.specs.declared.fault.Misfit.TheVariants.{Range}
 use Rattle.pp_value.specs.Table.{number, fits_word}
+use Rattle.std.proofs.lemmas.Bool.{false_from_ne_true}
 
 -- a number of 64 bits with a sign passes the test
 fits_test : (z : ℤ) → FitsSigned w64 z → fits_word z ≡ true
 fits_test (pos n) h = (Decides-ltb n 0x8000_0000_0000_0000).1 h.sfits
 fits_test (negsuc n) h = (Decides-ltb n 0x8000_0000_0000_0000).1 h.sfits
 
--- a test that can't be true is false
-by_bool : (b : Bool) → (b ≡ true → ⊥) → b ≡ false
-by_bool true h = absurd (h refl)
-by_bool false h = refl
-
 -- a number that doesn't fit fails the test
 leaves_test : (z : ℤ) → (FitsSigned w64 z → ⊥) → fits_word z ≡ false
-leaves_test (pos n) h = by_bool _ (λ e. h (record { sfits = (Decides-ltb n 0x8000_0000_0000_0000).0 e }))
-leaves_test (negsuc n) h = by_bool _ (λ e. h (record { sfits = (Decides-ltb n 0x8000_0000_0000_0000).0 e }))
+leaves_test (pos n) h = false_from_ne_true _ (λ e. h (record { sfits = (Decides-ltb n 0x8000_0000_0000_0000).0 e }))
+leaves_test (negsuc n) h = false_from_ne_true _ (λ e. h (record { sfits = (Decides-ltb n 0x8000_0000_0000_0000).0 e }))
 
 -- a number where it fits, and else the refusal of its range
 abbrev choice : ℤ → Bool → Result Value Misfit

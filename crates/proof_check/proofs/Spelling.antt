@@ -9,7 +9,7 @@ use Rattle.std.proofs.lemmas.Slice.Eq.{bytes_eq-Decides}
 use Rattle.std.specs.Str.Parse.{AllDigits, digits_value, digits_value_after}
 use Rattle.std.specs.Char.{digit_value}
 use Rattle.std.proofs.Common.{eq-eqb, eqb-true, leb-true, ltb-true, le-leb, lt-ltb}
-use Rattle.std.proofs.lemmas.Bool.{ne_eqb, cases_Bool}
+use Rattle.std.proofs.lemmas.Bool.{ne_eqb, cases_Bool, and_parts}
 use Rattle.std.proofs.lemmas.Option.{none-some}
 use Rattle.std.proofs.lemmas.Str.{digit_value_digit}
 use Rattle.std.proofs.lemmas.Fmt.{decimal-digits_value, decimal_digit, decimal_is_IsNumeral, first_decimal}
@@ -28,6 +28,7 @@ use Rattle.proof_check.proofs.WordLaws.{words_left-all}
 use Rattle.proof_check.specs.Reading.{digits_behind, number_in}
 use Rattle.rh_base.specs.Reading.{◌>>=◌}
 use Rattle.proof_check.specs.WordReading.{Found, with_words, with_first, word_is, count_in, within, plain, unsigned_in, negative_in, signed, lits_or, lits_in, with_link, links_in, links_behind, clauses_in, formula_of, formula_in, step_in, steps_in, log_in, block_in, blocks_in, ended, proofs_in}
+use Rattle.rh_base.proofs.Options.{bind_some}
 
 -- ---- numbers
 
@@ -40,12 +41,6 @@ if_some false o m e = absurd (none-some m e)
 if_none : {X : Type 0} (b : Bool) (o : Option X) (m : X) → (if b then None else o) ≡ Some m → (b ≡ false) × (o ≡ Some m)
 if_none true o m e = absurd (none-some m e)
 if_none false o m e = (refl, e)
-
--- of a conjunction that is true both sides are true
-and_parts : (a b : Bool) → (a && b) ≡ true → (a ≡ true) × (b ≡ true)
-and_parts true true e = (refl, refl)
-and_parts true false e = absurd (true≢false (sym e))
-and_parts false b e = absurd (true≢false (sym e))
 
 -- the number that was read, or 0
 value_of : Option ℕ → ℕ
@@ -173,17 +168,12 @@ mapped : {X Y : Type 0} (f : X → Y) (o : Option X) (y : Y) → option_map f o 
 mapped f None y h = absurd cc
 mapped f (Some x) y h = (x, refl, cc)
 
--- a value behind a first one comes from it
-bound : {X Y : Type 0} (o : Option X) (f : X → Option Y) (y : Y) → (o >>= f) ≡ Some y → (x : X) × (o ≡ Some x) × (f x ≡ Some y)
-bound None f y h = absurd cc
-bound (Some x) f y h = (x, refl, h)
-
 -- a word without a sign that is read as a literal spells it
 unsigned_found : (vars : ℕ) (w : Word) (o : Option Lit) → number_in w >>= plain vars ≡ Some o → SpellsLit vars w o
 unsigned_found vars w o h = by_number (cases_Bool (n == 0))
   where
     found : (n : ℕ) × (number_in w ≡ Some n) × (plain vars n ≡ Some o)
-    found = bound (number_in w) (plain vars) o h
+    found = bind_some (number_in w) (plain vars) o h
 
     n : ℕ
     n = found.0
@@ -203,7 +193,7 @@ unsigned_found vars w o h = by_number (cases_Bool (n == 0))
 -- a word behind a `-` that is read as a literal spells it
 negative_found : (vars : ℕ) (w : Word) (o : Option Lit) → (number_in w >>= λ n. option_map Some (within vars false n)) ≡ Some o → SpellsLit vars (45 ∷ w) o
 negative_found vars w o h =
-    let f = bound (number_in w) (λ n. option_map Some (within vars false n)) o h in
+    let f = bind_some (number_in w) (λ n. option_map Some (within vars false n)) o h in
     let m = mapped Some (within vars false f.0) o f.2 in
     let s = within_found vars false f.0 m.0 m.1 in
     subst (SpellsLit vars (45 ∷ w)) m.2 (ap (λ u. 45 ∷ u) (number_spelled w f.0 f.1) ∙ ap lit_word (sym s.0), subst (HasVariable vars) (sym s.0) (s.1, s.2))
@@ -414,7 +404,7 @@ clauses_found vars zero ws x h =
     let same : ◌≡◌ {A = List (List Lit) × List Word} ([], ws) x = cc in
     subst (SpellsClauses vars zero ws) same (record { written = []; words = refl; count = refl; valid = tt; read = refl })
 clauses_found vars (suc n) ws x h =
-    let a = bound (lits_in vars ws) (λ l. with_first (clause_of l.0) (clauses_in vars n l.1)) x h in
+    let a = bind_some (lits_in vars ws) (λ l. with_first (clause_of l.0) (clauses_in vars n l.1)) x h in
     let f = first_some (clause_of a.0.0) (clauses_in vars n a.0.1) x a.2 in
     let l = lits_found vars ws a.0 a.1 in
     let m = clauses_found vars n a.0.1 f.0 f.1 in
@@ -448,12 +438,12 @@ pub record SpellsFormula (ws : List Word) (x : Formula × List Word) : Type 0 wh
 pub formula_found : (ws : List Word) (x : Formula × List Word) → formula_in ws ≡ Some x → SpellsFormula ws x
 unfolding formula_in
 formula_found ws x h =
-    let p = bound (word_is (codes "p") ws) _ x h in
-    let c = bound (word_is (codes "cnf") p.0.1) _ x p.2 in
-    let v = bound (count_in c.0.1) _ x c.2 in
-    let n = bound (count_in v.0.1) _ x v.2 in
+    let p = bind_some (word_is (codes "p") ws) _ x h in
+    let c = bind_some (word_is (codes "cnf") p.0.1) _ x p.2 in
+    let v = bind_some (count_in c.0.1) _ x c.2 in
+    let n = bind_some (count_in v.0.1) _ x v.2 in
     let s = if_some (nat_le v.0.0 (2 ^ 31)) (formula_of v.0.0 n.0.0 n.0.1) x n.2 in
-    let cs = bound (clauses_in v.0.0 n.0.0 n.0.1) (λ y. Some (record { vars = v.0.0; clauses = y.0 }, y.1)) x s.1 in
+    let cs = bind_some (clauses_in v.0.0 n.0.0 n.0.1) (λ y. Some (record { vars = v.0.0; clauses = y.0 }, y.1)) x s.1 in
     let m = clauses_found v.0.0 n.0.0 n.0.1 cs.0 cs.1 in
     let same : ◌≡◌ {A = Formula × List Word} (record { vars = v.0.0; clauses = cs.0.0 }, cs.0.1) x = cc in
     let vars = count_found c.0.1 v.0 v.1 in
@@ -501,9 +491,9 @@ step_text lits start chain rest =
 pub step_found : (vars : ℕ) (ws : List Word) (x : Step × List Word) → step_in vars ws ≡ Some x → SpellsStep vars ws x
 unfolding step_in
 step_found vars ws x h =
-    let l = bound (lits_in vars ws) _ x h in
-    let n = bound (count_in l.0.1) _ x l.2 in
-    let c = bound (links_in vars n.0.1) _ x n.2 in
+    let l = bind_some (lits_in vars ws) _ x h in
+    let n = bind_some (count_in l.0.1) _ x l.2 in
+    let c = bind_some (links_in vars n.0.1) _ x n.2 in
     let same : ◌≡◌ {A = Step × List Word} (record { clause = clause_of l.0.0; start = n.0.0; chain = c.0.0 }, c.0.1) x = cc in
     let lits = lits_found vars ws l.0 l.1 in
     let start = count_found l.0.1 n.0 n.1 in
@@ -539,7 +529,7 @@ steps_found vars zero ws x h =
     let same : ◌≡◌ {A = List Step × List Word} ([], ws) x = cc in
     subst (SpellsSteps vars zero ws) same (record { written = []; words = refl; count = refl; valid = tt; read = refl })
 steps_found vars (suc n) ws x h =
-    let a = bound (step_in vars ws) (λ l. with_first l.0 (steps_in vars n l.1)) x h in
+    let a = bind_some (step_in vars ws) (λ l. with_first l.0 (steps_in vars n l.1)) x h in
     let f = first_some a.0.0 (steps_in vars n a.0.1) x a.2 in
     let l = step_found vars ws a.0 a.1 in
     let m = steps_found vars n a.0.1 f.0 f.1 in
@@ -572,8 +562,8 @@ pub record SpellsLog (vars : ℕ) (ws : List Word) (x : List Step × List Word) 
 pub log_found : (vars : ℕ) (ws : List Word) (x : List Step × List Word) → log_in vars ws ≡ Some x → SpellsLog vars ws x
 unfolding log_in
 log_found vars ws x h =
-    let p = bound (word_is (codes "log") ws) _ x h in
-    let n = bound (count_in p.0.1) _ x p.2 in
+    let p = bind_some (word_is (codes "log") ws) _ x h in
+    let n = bind_some (count_in p.0.1) _ x p.2 in
     let m = steps_found vars n.0.0 n.0.1 x n.2 in
     let many = count_found p.0.1 n.0 n.1 in
     record {
@@ -610,8 +600,8 @@ block_text b rest =
 pub block_found : (ws : List Word) (x : Refutation × List Word) → block_in ws ≡ Some x → SpellsBlock ws x
 unfolding block_in
 block_found ws x h =
-    let f = bound (formula_in ws) _ x h in
-    let l = bound (log_in f.0.0.vars f.0.1) _ x f.2 in
+    let f = bind_some (formula_in ws) _ x h in
+    let l = bind_some (log_in f.0.0.vars f.0.1) _ x f.2 in
     let same : ◌≡◌ {A = Refutation × List Word} (record { formula = f.0.0; steps = l.0.0 }, l.0.1) x = cc in
     let formula = formula_found ws f.0 f.1 in
     let log = log_found f.0.0.vars f.0.1 l.0 l.1 in
@@ -646,7 +636,7 @@ blocks_found zero ws x h =
     let same : ◌≡◌ {A = List Refutation × List Word} ([], ws) x = cc in
     subst (SpellsBlocks zero ws) same (record { written = []; words = refl; count = refl; valid = tt; read = refl })
 blocks_found (suc n) ws x h =
-    let a = bound (block_in ws) (λ l. with_first l.0 (blocks_in n l.1)) x h in
+    let a = bind_some (block_in ws) (λ l. with_first l.0 (blocks_in n l.1)) x h in
     let f = first_some a.0.0 (blocks_in n a.0.1) x a.2 in
     let l = block_found ws a.0 a.1 in
     let m = blocks_found n a.0.1 f.0 f.1 in
@@ -675,9 +665,9 @@ ended_is (x, w ∷ ws) y h = absurd cc
 pub proofs_found : (text : List ℕ) (ps : List Refutation) → proofs_in (words_of text) ≡ Some ps → IsProofText text ps
 unfolding proofs_in
 proofs_found text ps h =
-    let p = bound (word_is (codes "proofs") (words_of text)) _ ps h in
-    let n = bound (count_in p.0.1) _ ps p.2 in
-    let f = bound (blocks_in n.0.0 n.0.1) ended ps n.2 in
+    let p = bind_some (word_is (codes "proofs") (words_of text)) _ ps h in
+    let n = bind_some (count_in p.0.1) _ ps p.2 in
+    let f = bind_some (blocks_in n.0.0 n.0.1) ended ps n.2 in
     let e = ended_is f.0 ps f.2 in
     let m = blocks_found n.0.0 n.0.1 f.0 f.1 in
     let many = count_found p.0.1 n.0 n.1 in

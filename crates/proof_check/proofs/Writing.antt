@@ -201,7 +201,7 @@ block_left b rest h =
 
 -- ---- logs whose steps are right
 -- the clause of a clause's literals is itself
-clause_same : (c : List Lit) → IsClause c → clause_of c ≡ c
+pub clause_same : (c : List Lit) → IsClause c → clause_of c ≡ c
 clause_same c h = one_clause (clause_of c) c (IsClause-clause_of c) h (has_lit-clause_of c)
 
 -- what holds of all literals holds of one that stands there

@@ -2,12 +2,4 @@
 #![tactic(auto)]
 
 #[cfg(test)]
-mod checking;
-#[cfg(test)]
-mod circuits;
-#[cfg(test)]
-mod common;
-#[cfg(test)]
-mod formulas;
-#[cfg(test)]
-mod trimming;
+mod tests;

@@ -15,7 +15,7 @@ use Rattle.verdict_report.specs.declared.report.Form.{Form}
 use Rattle.verdict_report.specs.declared.report.Form.TheVariants as form
 use Rattle.verdict_report.specs.declared.report.Report.{Report}
 use Rattle.reports.specs.Comparisons.{place_of_source, other_inputs, names_of, other_names_of, IsComparison}
-use Rattle.command_line.specs.Table.{given}
+use Rattle.command_line.specs.Table.{load_of}
 use Rattle.compiled_text.specs.Compiled.{Compiled}
 use Rattle.known_inputs.specs.Inputs.{bytes_or_none, bytes_of, IsCompiledOf, IsGivenOf, IsKnown}
 use Rattle.known_inputs.specs.declared.inputs.Known.{Known}
@@ -410,7 +410,7 @@ no_source i m is none = without_bytes m (subst (λ bytes. IsCompiledOf bytes m) 
 
 -- then the other one stands in the place of the input
 no_other_bytes : (i : Inputs) → bytes_of role.Compiled i ≡ None → bytes_of role.Compiled (other_inputs i) ≡ None
-no_other_bytes i none = ap (λ bytes. given role.Compiled ((place_of_source bytes, bytes_or_none (bytes_of role.Other i)) ∷ i.files)) none ∙ none
+no_other_bytes i none = ap (λ bytes. load_of role.Compiled ((place_of_source bytes, bytes_or_none (bytes_of role.Other i)) ∷ i.files)) none ∙ none
 
 -- where none is named both that are compared are manifests
 are_manifests : (run : Run) (c : IsCompared run) → bytes_of role.Compiled c.loaded.inputs ≡ None → AreManifests c

@@ -17,7 +17,7 @@ use Rattle.command_line.specs.declared.request.Request.{Request}
 use Rattle.command_line.specs.declared.request.Source.TheVariants as source
 use Rattle.command_line.specs.declared.table.Role.{Role}
 use Rattle.command_line.specs.declared.table.Role.TheVariants as role
-use Rattle.command_line.specs.Table.{ByRole, input_kind, given, place}
+use Rattle.command_line.specs.Table.{ByRole, input_kind, load_of, role_index}
 use Rattle.request_files.specs.Files.{AreRead, AreShort, NoneMissing, FirstTooLong}
 use Rattle.known_inputs.specs.Inputs.{Bytes, bytes_of, bytes_or_none, input_of}
 use Rattle.known_inputs.specs.declared.inputs.Inputs.{Inputs}
@@ -85,25 +85,25 @@ says_of_named held r names before now e is says = subst (λ s. SaysOf (record r 
 
 -- the input is short, and so is the manifest that it is compared with, as each file is
 abbrev short_at : Role → Type 0
-short_at role = (files : ByRole (List ℕ)) → AreShort files → length (bytes_or_none (given role files)) < 2 ^ 32
+short_at role = (files : ByRole (List ℕ)) → AreShort files → length (bytes_or_none (load_of role files)) < 2 ^ 32
 
 -- of short files the one of each role is short
 each_is_short : (r : Role) → short_at r
 each_is_short r [] short = omega arith
-each_is_short r (f ∷ files) short = either (place f.0 == place r) f.1 files short.0 (each_is_short r files short.1)
+each_is_short r (f ∷ files) short = either (role_index f.0 == role_index r) f.1 files short.0 (each_is_short r files short.1)
   where
-    either : (here : Bool) (bytes : List ℕ) (files : ByRole (List ℕ)) → length bytes < 2 ^ 32 → length (bytes_or_none (given r files)) < 2 ^ 32
-        → length (bytes_or_none (cond here (Some bytes) (given r files))) < 2 ^ 32
+    either : (here : Bool) (bytes : List ℕ) (files : ByRole (List ℕ)) → length bytes < 2 ^ 32 → length (bytes_or_none (load_of r files)) < 2 ^ 32
+        → length (bytes_or_none (cond here (Some bytes) (load_of r files))) < 2 ^ 32
     either true bytes files here more = here
     either false bytes files here more = more
 
 -- the input is short where each file is
-pub input_is_short : (files : ByRole (List ℕ)) → AreShort files → length (bytes_or_none (given role.Input files)) < 2 ^ 32
+pub input_is_short : (files : ByRole (List ℕ)) → AreShort files → length (bytes_or_none (load_of role.Input files)) < 2 ^ 32
 input_is_short = each_is_short role.Input
 
 -- what stands ahead in the place of what is asked about is short
 ahead_is_short : (bytes : Bytes) (other : List ℕ) (files : ByRole (List ℕ)) → length other < 2 ^ 32 → AreShort files
-    → length (bytes_or_none (given role.Input ((place_of_source bytes, other) ∷ files))) < 2 ^ 32
+    → length (bytes_or_none (load_of role.Input ((place_of_source bytes, other) ∷ files))) < 2 ^ 32
 ahead_is_short None other files short more = short
 ahead_is_short (Some bytes) other files short more = each_is_short role.Input files more
 

@@ -1,12 +1,12 @@
 -- Runs, and what stands ahead of what in them.
-use Rattle.std.proofs.Common.{◌≡◌, ◌≢◌, ⊎_elim, ℕ, suc, cond, ◌<◌, ◌≤◌, List, [], ◌∷◌, ◌++◌, length, get_or, refl, sym, ap, ◌∙◌, subst, arith, eq-eqb, ne_eqb}
+use Rattle.std.proofs.Common.{◌≡◌, ◌≢◌, ⊎_elim, ℕ, ◌<◌, ◌≤◌, List, [], ◌∷◌, ◌++◌, length, get_or, sym, ap, ◌∙◌, subst, arith}
 use Rattle.std.specs.List.{AllByRecursion}
 use Rattle.std.proofs.lemmas.Bool.{cases_lt, cases_eq}
 use Rattle.fs_semantics.specs.Programs.{Program}
 use Rattle.fs_semantics.specs.Orders.{times, NoneAhead, IsLinearExtension, IsDeterministic}
 use Rattle.fs_semantics.proofs.Counts.{times_itself, all_from}
 use Rattle.orders.specs.Exchanges.{place}
-use Rattle.orders.proofs.Walks.{at_place, place_kept}
+use Rattle.orders.proofs.Walks.{at_place, place_kept, place_here, place_on}
 
 -- ---- what comes before fewer allows more runs
 module _ (before other : ℕ → ℕ → Type 0) (sub : (a b : ℕ) → before a b → other a b) where
@@ -27,15 +27,6 @@ module _ (before other : ℕ → ℕ → Type 0) (sub : (a b : ℕ) → before a
   -- a graph that is deterministic by fewer pairs is so by more
   pub deterministic_by_more : (es : List Program) → IsDeterministic es before → IsDeterministic es other
   deterministic_by_more es det t is o p a b = det t is o p (allowed_by_fewer (length es) o a) (allowed_by_fewer (length es) p b)
-
--- ---- places
--- the first of a run stands at its start
-place_here : (k : ℕ) (run : List ℕ) → place k (k ∷ run) ≡ 0
-place_here k run = ap (λ b. cond b 0 (suc (place k run))) (eq-eqb k k refl)
-
--- and what isn't the first stands one further than in the rest
-place_on : (k i : ℕ) (run : List ℕ) → k ≢ i → place k (i ∷ run) ≡ suc (place k run)
-place_on k i run ne = ap (λ b. cond b 0 (suc (place k run))) (ne_eqb i k (λ e. ne (sym e)))
 
 -- of two numbers the one that comes before the other stands ahead of it
 pub ahead_of : (before : ℕ → ℕ → Type 0) (n : ℕ) (run : List ℕ) → IsLinearExtension n before run → (a b : ℕ) → a < n → b < n → a ≢ b → before a b → place a run < place b run

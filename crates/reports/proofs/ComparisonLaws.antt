@@ -13,7 +13,7 @@ use Rattle.graph_semantics.specs.Graphs.{IsGraphOf, IsGraphRefusal}
 use Rattle.dep_graph.specs.declared.answer.Graph.{Graph}
 use Rattle.command_line.specs.declared.table.Role.{Role}
 use Rattle.command_line.specs.declared.table.Role.TheVariants as role
-use Rattle.command_line.specs.Table.{ByRole, place, given as named}
+use Rattle.command_line.specs.Table.{ByRole, role_index, load_of as named}
 use Rattle.host_limits.specs.declared.limits.Limits.{Limits}
 use Rattle.known_inputs.specs.declared.inputs.Inputs.{Inputs}
 use Rattle.known_inputs.specs.declared.inputs.Known.{Known}
@@ -29,7 +29,7 @@ use Rattle.reports.proofs.StageLaws.{unread_programs}
 -- ---- the files beside the other
 
 -- the file of a role that is neither that of the input nor that of a compiled catalog
-kept : (r : Role) (x : List ℕ) (files : ByRole (List ℕ)) → (place role.Input == place r) ≡ false → (place role.Compiled == place r) ≡ false
+kept : (r : Role) (x : List ℕ) (files : ByRole (List ℕ)) → (role_index role.Input == role_index r) ≡ false → (role_index role.Compiled == role_index r) ≡ false
     → (b : Bytes) → named r ((place_of_source b, x) ∷ files) ≡ named r files
 kept r x files input compiled None = ap (λ t. cond t (Some x) (named r files)) input
 kept r x files input compiled (Some bytes) = ap (λ t. cond t (Some x) (named r files)) compiled

@@ -13,6 +13,7 @@ use Rattle.pp_value.specs.Shown.{shown_ref}
 use Rattle.pp_eval.specs.Names.{is_colon, unrooted}
 use Rattle.pp_eval.specs.References.{plain_name}
 use Rattle.compiled_text.specs.Names.{is_word_byte, IsTypeSegment, behind_colons, IsType}
+use Rattle.pp_syntax.proofs.QuotedTokens.{same_first}
 
 -- ---- bytes of types
 
@@ -127,17 +128,13 @@ shown kind h =
     ap (λ (letters : List ℕ). encode_utf8_all (with_capitals true letters)) (chars-IsAscii kind (low_ascii kind h))
     ∙ encodes-IsAscii (with_capitals true kind) (all_ascii (with_capitals true kind) (capitals_are true kind h))
 
--- lists that are the same begin alike and go on alike
-same_list : (c d : ℕ) (f g : List ℕ) → ◌≡◌ {A = List ℕ} (c ∷ f) (d ∷ g) → (c ≡ d) × (f ≡ g)
-same_list c d f g e = ((cc), (cc))
-
 -- up to the first bracket both are the same, and behind it
 same_parts : (f g r s : List ℕ) → AllByRecursion IsByte f → AllByRecursion IsByte g → f ++ 91 ∷ r ≡ g ++ 91 ∷ s → (f ≡ g) × (r ≡ s)
-same_parts [] [] r s h k e = (refl, (same_list 91 91 r s e).1)
-same_parts [] (d ∷ g) r s h k e = absurd (k.0.no_bracket (sym (same_list 91 d r (g ++ 91 ∷ s) e).0))
-same_parts (c ∷ f) [] r s h k e = absurd (h.0.no_bracket (same_list c 91 (f ++ 91 ∷ r) s e).0)
+same_parts [] [] r s h k e = (refl, (same_first 91 91 r s e).1)
+same_parts [] (d ∷ g) r s h k e = absurd (k.0.no_bracket (sym (same_first 91 d r (g ++ 91 ∷ s) e).0))
+same_parts (c ∷ f) [] r s h k e = absurd (h.0.no_bracket (same_first c 91 (f ++ 91 ∷ r) s e).0)
 same_parts (c ∷ f) (d ∷ g) r s h k e =
-    let two = same_list c d (f ++ 91 ∷ r) (g ++ 91 ∷ s) e in
+    let two = same_first c d (f ++ 91 ∷ r) (g ++ 91 ∷ s) e in
     let more = same_parts f g r s h.1 k.1 two.1 in
     ((λ i. two.0 i ∷ more.0 i), more.1)
 

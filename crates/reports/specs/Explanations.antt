@@ -4,7 +4,7 @@ use Rattle.printed_names.specs.Printed.{printed}
 use Rattle.graph_semantics.specs.Graphs.{reference_at}
 use Rattle.compiled_text.specs.Compiled.{Compiled}
 use Rattle.compiled_text.specs.declared.catalog.CompiledResource.{CompiledResource}
-use Rattle.compiled_relations.specs.Finding.{told}
+use Rattle.compiled_relations.specs.Finding.{name_and_line}
 use Rattle.fs_semantics.specs.Programs.{Program}
 use Rattle.catalog_semantics.specs.Catalogs.{Catalog}
 use Rattle.dep_graph.specs.declared.answer.Graph.{Graph}
@@ -20,7 +20,7 @@ use Rattle.reports.specs.declared.terms.Asked.{Asked}
 -- the reference of a resource of a compiled catalog, as it is printed, and behind it the file and the line that declare it
 abbrev pub placed_name : Catalog → ℕ → Option CompiledResource → List ℕ
 placed_name c place None = []
-placed_name c place (Some r) = printed (told r (reference_at c place))
+placed_name c place (Some r) = printed (name_and_line r (reference_at c place))
 
 -- The resources are named with the places at which they stand in the manifest, or at which Puppet found them in one.
 abbrev pub AreNamed : Inputs → Option Compiled → Catalog → List ℕ → List (List ℕ) → Type 0

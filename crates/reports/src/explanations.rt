@@ -15,7 +15,7 @@ use crate::modelling::Modelled;
 use crate::terms::Asked;
 use crate::verdicts::name_at;
 use catalog::Catalog;
-use compiled_relations::told as told_with_line;
+use compiled_relations::name_and_line;
 use compiled_text::CompiledCatalog;
 use explain_report::told;
 use known_inputs::{Inputs, Known};
@@ -42,7 +42,7 @@ fn placed_name(
         return Ok(Text::new(alloc));
     };
     let reference = name_at(alloc, catalog, place)?;
-    let name = told_with_line(alloc, r, reference.as_str())?;
+    let name = name_and_line(alloc, r, reference.as_str())?;
     printed(alloc, name.as_str())
 }
 

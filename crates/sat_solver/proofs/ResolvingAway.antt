@@ -1,5 +1,5 @@
 -- What resolving a literal away that became false ahead of the last level does to the resolvent.
-use Rattle.std.proofs.Common.{◌≡◌, ◌⊎◌, inl, inr, ℕ, ◌+◌, ◌/◌, ◌<◌, Bool, true, false, true≢false, not, ◌||◌, ◌&&◌, List, [], ◌∷◌, ◌++◌, length, take, get_or, sym, ap, ◌∙◌, subst, arith}
+use Rattle.std.proofs.Common.{◌≡◌, ◌⊎◌, inl, inr, ℕ, ◌+◌, ◌/◌, ◌<◌, Bool, true, false, true≢false, not, ◌||◌, ◌&&◌, List, [], ◌∷◌, ◌++◌, length, take, get_or, None, Some, sym, ap, ◌∙◌, subst, arith}
 use Rattle.std.specs.Prelude.{◌==◌}
 use Rattle.std.proofs.Math.ListN.{set}
 use Rattle.std.proofs.lemmas.List.{get_or-set_other}
@@ -27,7 +27,7 @@ joined_at literals seen taken new lits d w v ew et el h x q =
 
 -- where a literal is taken out and the clause that gave its opposite is joined, the resolutions lead one further
 pub leads_on : (f : List (List ℕ)) (t : Way) (b p w n : ℕ) (seen taken new : List Bool) (lits : List ℕ) (c : ℕ → Bool) (resolutions more : List Resolution) → IsApart t.literals → p < length t.literals → IsGiven f t b → w ≡ get_or t.literals p 0
-    → get_or t.reasons p 0 ≡ n + 1 → is_seen seen (get_or t.literals p 0) ≡ true → length seen ≡ t.vars → taken ≡ set seen (w / 2) false → lits ≡ clause f n
+    → get_or t.reasons p None ≡ Some n → is_seen seen (get_or t.literals p 0) ≡ true → length seen ≡ t.vars → taken ≡ set seen (w / 2) false → lits ≡ clause f n
     → ((x : ℕ) → has t.literals (opposite x) ≡ true → is_seen new x ≡ (is_seen taken x || (has lits x && not (x == w)))) → more ≡ resolutions ++ record { number = n + 1; pivot = opposite w } ∷ []
     → Reaches f c resolutions (in_clause t.literals seen) → Reaches f c more (in_clause t.literals new)
 leads_on f t b p w n seen taken new lits c resolutions more apart within given ew er on long et el joined em h =

@@ -1,7 +1,7 @@
 -- Conflict analysis in an implication graph: what holds of the resolvent while literals are resolved away, and at the end.
-use Rattle.std.specs.Prelude.{◌≡◌, ℕ, ◌^◌, ◌<◌, Bool, false, [], length, take, slice_index}
+use Rattle.std.specs.Prelude.{◌≡◌, ℕ, ◌^◌, ◌<◌, Bool, false, [], length, take, None}
 use Rattle.unit_propagation.specs.Literals.{has}
-use Rattle.unit_propagation.specs.Trails.{Way, IsApart}
+use Rattle.unit_propagation.specs.Trails.{Way, IsApart, reason_at}
 use Rattle.unit_propagation.specs.Watching.{clause, IsFalse, AtRest}
 use Rattle.sat_solver.specs.Resolving.{is_seen, IsMarked, in_clause, Reaches, IsGiven, IsLeft, Covers}
 use Rattle.sat_solver.specs.declared.analyze.Resolvent.{Resolvent}
@@ -15,7 +15,7 @@ pub record IsImplicationGraph (g : ImplicationGraph) : Type 0 where
 
 -- a clause gave each literal on the trail: none was decided
 abbrev pub IsAllGiven : Way → Type 0
-IsAllGiven t = (p : ℕ) → p < length t.literals → slice_index t.reasons p ≡ 0 → ⊥
+IsAllGiven t = (p : ℕ) → p < length t.literals → reason_at t p ≡ None → ⊥
 
 -- A conflict of the last level: all literals of the clause are false, and ahead of that level unit propagation had come to its end.
 pub record IsConflict (g : ImplicationGraph) (conflict : ℕ) : Type 0 where

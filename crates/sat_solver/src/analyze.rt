@@ -3,9 +3,9 @@
 //! Zhang and others 2001). A conflict ahead of all decisions is resolved in the same way down to the empty clause, since the log has
 //! to derive it. The resolvent has the false literals whose variables are marked.
 
-ghost use Rattle.std.specs.Prelude.{◌≡◌, ◌⊎◌, ℕ, ◌+◌, ◌*◌, ◌/◌, ◌<◌, ◌≤◌, ◌^◌, ◌==◌, ◌&&◌, ◌||◌, not, true, false, [], ◌∷◌, ◌++◌, length, take, IfOk, OnOk, slice_index, slice_set};
+ghost use Rattle.std.specs.Prelude.{◌≡◌, ◌⊎◌, ℕ, ◌+◌, ◌*◌, ◌/◌, ◌<◌, ◌≤◌, ◌^◌, ◌==◌, ◌&&◌, ◌||◌, not, true, false, [], ◌∷◌, ◌++◌, length, take, None, IfOk, OnOk, slice_index, slice_set};
 ghost use Rattle.unit_propagation.specs.Literals.{opposite, has};
-ghost use Rattle.unit_propagation.specs.Trails.{IsApart};
+ghost use Rattle.unit_propagation.specs.Trails.{IsApart, reason_at};
 ghost use Rattle.unit_propagation.specs.Watching.{clause, IsFalse, IsOnce};
 ghost use Rattle.sat_solver.specs.Resolving.{is_seen, in_clause, Covers};
 ghost use Rattle.sat_solver.specs.Analyzing.{IsImplicationGraph, IsAllGiven, IsCounted, IsClear, IsConflict, IsCovered, IsReached, Resolves, HasUip, IsAnalyzed};
@@ -187,7 +187,7 @@ impl Resolvent {
         requires within { place < length graph.now.trail.now.literals }
         requires counted { IsCounted graph.now (place + 1) self.old }
         requires seen { is_seen self.old.seen.items (slice_index graph.now.trail.now.literals place) ≡ true }
-        requires given { slice_index graph.now.trail.now.reasons place ≡ 0 → ⊥ }
+        requires given { reason_at graph.now.trail.now place ≡ None → ⊥ }
         ensures counted { OnOk result (IsCounted graph.now place self.new) }
         ensures one_less { OnOk result (self.old.pending ≤ self.new.pending + 1) }
         ensures resolves { OnOk result (Resolves graph.now self.old self.new) }

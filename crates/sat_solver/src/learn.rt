@@ -52,7 +52,7 @@ pub(crate) fn learn_long(
     requires addable { IsAddable store.old trail.old literals.now }
     requires two { 2 ≤ length literals.now }
     ensures store { OnOk result (store.new ≡ store.old ++ literals.now ∷ []) }
-    ensures trail { OnOk result (trail.new ≡ with_literal trail.old (slice_index literals.now 0) (length store.old + 1)) }
+    ensures trail { OnOk result (trail.new ≡ with_literal trail.old (slice_index literals.now 0) (length store.old)) }
     ensures ready { OnOk result (IsReady store.new trail.new watches.new) }
 {
     let clause = store.count() as u32;
@@ -73,7 +73,7 @@ pub(crate) fn learn_unit(
     requires addable { IsAddable store.old trail.old literals.now }
     requires one { length literals.now < 2 }
     ensures store { OnOk result (store.new ≡ store.old ++ literals.now ∷ []) }
-    ensures trail { OnOk result (trail.new ≡ with_literal trail.old (slice_index literals.now 0) (length store.old + 1)) }
+    ensures trail { OnOk result (trail.new ≡ with_literal trail.old (slice_index literals.now 0) (length store.old)) }
     ensures ready { OnOk result (IsReady store.new trail.new watches.now) }
 {
     let clause = store.count() as u32;

@@ -1,12 +1,13 @@
 -- The first extension stands for all allowed orders of a deterministic graph.
-use Rattle.std.proofs.Common.{◌≡◌, ℕ, zero, suc, List, [], ◌∷◌, length, slice_index_or, Some, None, refl, sym, subst}
+use Rattle.std.proofs.Common.{◌≡◌, ℕ, zero, suc, List, [], ◌∷◌, length, slice_index_or, Some, sym, subst}
 use Rattle.std.specs.List.{AllByRecursion}
 use Rattle.fs_semantics.specs.FileTree.{Tree, IsTree}
-use Rattle.fs_semantics.specs.Programs.{Program, Id, Outcome, and_then, run}
+use Rattle.fs_semantics.specs.Programs.{Program, Id, run}
 use Rattle.fs_semantics.specs.Changes.{IsProper}
 use Rattle.fs_semantics.specs.Orders.{IsLinearExtension, outcome}
 use Rattle.orders.specs.Relation.{Relation, Comes}
 use Rattle.order_encode.specs.Witnesses.{IsFirstExtension}
+use Rattle.fs_semantics.proofs.ConstructLaws.{split_then}
 
 -- proper programs leave file trees
 abbrev pub LeavesTrees : Type 0
@@ -18,17 +19,12 @@ proper_at [] all i = tt
 proper_at (e ∷ es) all zero = all.0
 proper_at (e ∷ es) all (suc i) = proper_at es all.1 i
 
--- where two runs end in a tree, the first does, and the second from there
-split : (o : Outcome) (f : Tree → Outcome) (u : Tree) → and_then o f ≡ Some u → (t : Tree) × (o ≡ Some t) × (f t ≡ Some u)
-split None f u h = cc
-split (Some t) f u h = (t, refl, h)
-
 module _ (leaves : LeavesTrees) (es : List Program) (proper : AllByRecursion IsProper es) where
   -- an order of proper programs leaves file trees
   pub ends_in_tree : (o : List ℕ) (t u : Tree) → IsTree t → outcome es o t ≡ Some u → IsTree u
   ends_in_tree [] t u tree h = let same : t ≡ u = cc in subst IsTree same tree
   ends_in_tree (i ∷ o) t u tree h =
-      let two = split (run (slice_index_or es i Id) t) (outcome es o) u h in
+      let two = split_then (run (slice_index_or es i Id) t) (outcome es o) u h in
       ends_in_tree o two.0 u (leaves (slice_index_or es i Id) t two.0 (proper_at es proper i) tree two.1) two.2
 
 -- the first extension is an allowed order

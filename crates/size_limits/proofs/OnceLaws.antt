@@ -1,7 +1,6 @@
 -- Paths in order are determined by which they are, and so are the weight and the number of paths of the domain.
 use Rattle.std.proofs.Common.{◌≡◌, ◌⊎◌, inl, inr, ℕ, true, false, ◌||◌, ◌*◌, List, [], ◌∷◌, length, Less, Equal, refl, sym, ap, ap₂, subst, ◌∙◌}
 use Rattle.std.specs.Prelude.{IsTrue}
-use Rattle.std.specs.List.{AllByRecursion}
 use Rattle.std.specs.List.Sorted.{IsStrictlySortedBy}
 use Rattle.std.specs.Cmp.{tied_itself}
 use Rattle.std.proofs.lemmas.Bool.{cases_Bool, cases_order, or_cases, or_left, false_from_ne_true}
@@ -13,6 +12,7 @@ use Rattle.fs_semantics.proofs.Keys.{same_bool}
 use Rattle.finite_domain.specs.Layouts.{other_segment, HaveSegment, IsFirstFailure, IsFreshChild}
 use Rattle.size_limits.specs.Weights.{child_count, all_work, capped, Weighs}
 use Rattle.size_limits.specs.Paths.{HasPaths}
+use Rattle.path_domain.proofs.LaidLaws.{all_at}
 
 -- each path is less than the next
 abbrev Sorted : List Path → Type 0
@@ -25,14 +25,6 @@ SameMembers ps qs = (p : Path) → is_among p ps ≡ is_among p qs
 -- no path is less than itself
 never : (p : Path) → path_cmp p p ≡ Less → ⊥
 never p h = let tied : path_cmp p p ≡ Equal = tied_itself path_total p in cc
-
--- what is less than all of a list is less than each member
-all_at : (f : Path) (ps : List Path) (q : Path) → AllByRecursion (λ r. path_cmp f r ≡ Less) ps → is_among q ps ≡ true → path_cmp f q ≡ Less
-all_at f [] q all h = cc
-all_at f (r ∷ ps) q all h = elim (or_cases (path_eq q r) (is_among q ps) h) [
-  | inl here ↦ ap (path_cmp f) (path_eq_same q r here) ∙ all.0
-  | inr there ↦ all_at f ps q all.1 there
-]
 
 -- a member of a sorted list is the first, or the first is less than it
 behind : (p q : Path) (qs : List Path) → Sorted (q ∷ qs) → is_among p (q ∷ qs) ≡ true → (p ≡ q) ⊎ (path_cmp q p ≡ Less)

@@ -1,7 +1,7 @@
 -- Sums that are capped, and the work of programs by two counts of children.
-use Rattle.std.proofs.Common.{◌≡◌, ◌⊎◌, inl, inr, ℕ, zero, suc, ◌+◌, ◌-◌, ◌*◌, ◌^◌, ◌<◌, ◌≤◌, min, Bool, true, false, cond, Some, List, [], ◌∷◌, map, length, drop, get_or, refl, sym, ap, ap₂, ◌∙◌, arith}
+use Rattle.std.proofs.Common.{◌≡◌, ◌⊎◌, inl, inr, ℕ, zero, suc, ◌+◌, ◌-◌, ◌*◌, ◌^◌, ◌<◌, ◌≤◌, min, Bool, true, false, cond, Some, List, [], ◌∷◌, map, length, refl, sym, ap, ap₂, ◌∙◌, arith}
 use Rattle.std.proofs.Math.Nat.{le-mul_of_pos_right, mul_comm, mul-zero}
-use Rattle.std.proofs.lemmas.List.{drop_more, length-map}
+use Rattle.std.proofs.lemmas.List.{length-map}
 use Rattle.std.specs.BTreeMap.{BTreeMap, Updates, get}
 use Rattle.fs_semantics.specs.FileTree.{Path, path_cmp, path_eq, parent}
 use Rattle.fs_semantics.proofs.Trees.{path_eq_same}
@@ -33,10 +33,6 @@ one_child old rest p q n m at is = ap (λ x. capped (x + child_count rest q)) is
     by : (b : Bool) → capped (cond b (capped (n + 1)) n + child_count rest q) ≡ capped (n + (cond b 1 0 + child_count rest q))
     by true = omega arith
     by false = omega arith
-
--- the programs from a place on are the one there and those behind it
-pub program_next : (es : List CodeProgram) (i : ℕ) (e : CodeProgram) → i < length es → e ≡ get_or es i e → programs_in (drop i es) ≡ next (program_of e) (programs_in (drop (i + 1) es))
-program_next es i e h is = ap programs_in (drop_more es i e h) ∙ ap (λ x. next (program_of x) (programs_in (drop (i + 1) es))) (sym is)
 
 -- the steps of a list are as much work as its programs
 pub same_work : (f : Path → ℕ) (es : List CodeProgram) → steps_work f (programs_in es) ≡ all_work f (map program_of es)

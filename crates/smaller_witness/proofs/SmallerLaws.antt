@@ -1,5 +1,5 @@
 -- What removals leave, and what smaller trees show.
-use Rattle.std.proofs.Common.{◌≡◌, ◌≢◌, ◌⊎◌, inl, inr, ℕ, Bool, true, false, not, List, [], ◌∷◌, ◌++◌, map, Some, None, refl, sym, ap, subst, ◌==◌, length, IfOk, Result, Ok, Err, ◌∙◌, arith, eqb-true}
+use Rattle.std.proofs.Common.{◌≡◌, ◌≢◌, ◌⊎◌, inl, inr, ℕ, Bool, true, not, List, [], ◌∷◌, ◌++◌, map, Some, None, refl, sym, ap, subst, ◌==◌, length, IfOk, Result, Ok, Err, ◌∙◌, arith, eqb-true}
 use Rattle.std.specs.Prelude.{◌↔◌, IsTrue}
 use Rattle.std.specs.List.{AllByRecursion}
 use Rattle.std.specs.FinMap as finite
@@ -7,7 +7,7 @@ use Rattle.fs_semantics.specs.FileTree.{Path, Tree, IsTree}
 use Rattle.fs_semantics.specs.Programs as model
 use Rattle.fs_semantics.specs.Programs.{Rm, Steps, Outcome, and_then, run, run_all}
 use Rattle.fs_semantics.specs.Orders.{Told, IsSecondRunCounterexample, outcome}
-use Rattle.fs_semantics.proofs.Words.{removed_word}
+use Rattle.fs_semantics.proofs.Words.{removed_word, not_word}
 use Rattle.fs_lang.specs.declared.program.Program.{Program}
 use Rattle.fs_lang.specs.declared.tree.Outcome as ending
 use Rattle.fs_lang.specs.declared.tree.Outcome.TheVariants as ends
@@ -67,19 +67,14 @@ some_items : (xs : List code.Difference) (b : Bool) → b ≡ (length xs == 0) �
 some_items [] b h = ((λ k. refl), (λ k. h))
 some_items (x ∷ xs) b h = ((λ k. let none = eqb-true (length (x ∷ xs)) 0 (sym h ∙ k) in absurd (omega (arith, none))), (λ k. cc))
 
--- the opposite of a truth value is true exactly where that isn't
-off_word : (b : Bool) → (not b ≡ true) ↔ (b ≡ true → ⊥)
-off_word true = ((λ h. cc), (λ h. absurd (h refl)))
-off_word false = ((λ h e. cc), (λ h. refl))
-
 -- trees are told to differ exactly where they do
 pub apart_word : (t u : Tree) (xs ys : List code.Difference) (b : Bool) → AreDifferences t u (map difference_of xs) → ((ds : List Difference) → AreDifferences t u ds → (ds ≡ []) ↔ (t ≡ u)) → ys ≡ xs → b ≡ (length ys == 0)
     → IsTrue (not b) ↔ (t ≢ u)
 apart_word t u xs ys b all none same is =
     let word = none (map difference_of xs) all in
     let items = some_items xs b (is ∙ ap (λ zs. length zs == 0) same) in (
-      (λ h e. (off_word b).0 h (items.1 (no_items xs (word.1 e)))),
-      (λ differ. (off_word b).1 (λ k. differ (word.0 (ap (map difference_of) (items.0 k))))),
+      (λ h e. (not_word b).0 h (items.1 (no_items xs (word.1 e)))),
+      (λ differ. (not_word b).1 (λ k. differ (word.0 (ap (map difference_of) (items.0 k))))),
     )
 
 -- and so are outcomes that are trees

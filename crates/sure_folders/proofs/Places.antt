@@ -8,6 +8,8 @@ use Rattle.fs_semantics.specs.Orders.{NoneAhead, times, up_from, outcome, IsLine
 use Rattle.fs_semantics.proofs.Counts.{times_itself, times_other, all_from}
 use Rattle.sure_folders.specs.Pruning.{without, IsOrderOf, chosen, between}
 use Rattle.sure_folders.proofs.Lists.{none_left, others_left}
+use Rattle.fs_semantics.proofs.Commuting.{none_above}
+use Rattle.fs_semantics.proofs.Ground.{none_before, once_up as up_once}
 
 -- equations that follow from one another are told alike
 same_test : (a b c d : ℕ) → (a ≡ b → c ≡ d) → (c ≡ d → a ≡ b) → (a == b) ≡ (c == d)
@@ -42,7 +44,7 @@ place_below k (j ∷ ks) h = elim (j == k) as (λ b. 0 < cond b 1 0 + times k ks
 ] h
 
 -- what stands at a place stands in the list
-counted : (ks : List ℕ) (i : ℕ) → i < length ks → 0 < times (get_or ks i 0) ks
+pub counted : (ks : List ℕ) (i : ℕ) → i < length ks → 0 < times (get_or ks i 0) ks
 counted [] i h = absurd (omega arith)
 counted (j ∷ ks) zero h = omega (arith, times_itself j ks)
 counted (j ∷ ks) (suc i) h = omega (arith, counted ks i (omega arith))
@@ -93,7 +95,7 @@ length-numbers f [] = refl
 length-numbers f (k ∷ ks) = ap suc (length-numbers f ks)
 
 -- the chosen program at a place is that of the number there
-program_at : (es : List Program) (ks : List ℕ) (i : ℕ) → i < length ks → get_or (chosen es ks) i Id ≡ get_or es (get_or ks i 0) Id
+pub program_at : (es : List Program) (ks : List ℕ) (i : ℕ) → i < length ks → get_or (chosen es ks) i Id ≡ get_or es (get_or ks i 0) Id
 program_at es [] i h = absurd (omega arith)
 program_at es (k ∷ ks) zero h = refl
 program_at es (k ∷ ks) (suc i) h = program_at es ks i (omega arith)
@@ -171,28 +173,10 @@ module _ (before : ℕ → ℕ → Type 0) where
 
 -- ---- all numbers
 
--- no smaller number stands among those from one on
-lower_none : (k n j : ℕ) → j < k → times j (up_from k n) ≡ 0
-lower_none k zero j h = refl
-lower_none k (suc n) j h = times_other j k (up_from (suc k) n) (λ e. omega arith) ∙ lower_none (suc k) n j (omega arith)
-
--- each of those stands there once
-pub up_once : (k n j : ℕ) → k ≤ j → j < k + n → times j (up_from k n) ≡ 1
-up_once k zero j h l = absurd (omega arith)
-up_once k (suc n) j h l = elim (k == j) as (λ b. (k == j) ≡ b → cond b 1 0 + times j (up_from (suc k) n) ≡ 1) [
-  | true ↦ λ e. let is : k ≡ j = eqb-true k j e in omega (arith, lower_none (suc k) n j (omega arith))
-  | false ↦ λ e. omega (arith, up_once (suc k) n j (let other : k ≡ j → ⊥ = eqb-false k j e in omega arith) (omega arith))
-] refl
-
 -- and no greater one does
 pub higher_none : (k n j : ℕ) → k + n ≤ j → times j (up_from k n) ≡ 0
 higher_none k zero j h = refl
 higher_none k (suc n) j h = times_other j k (up_from (suc k) n) (λ e. omega arith) ∙ higher_none (suc k) n j (omega arith)
-
--- no number past the last stands in an order
-outside : (n j : ℕ) (o : List ℕ) → AllByRecursion (λ i. i < n) o → n ≤ j → times j o ≡ 0
-outside n j [] all h = refl
-outside n j (i ∷ o) all h = let low : i < n = all.0 in times_other j i o (λ e. omega arith) ∙ outside n j o all.1 h
 
 module _ (n : ℕ) (before : ℕ → ℕ → Type 0) where
   -- an allowed order is one of all numbers
@@ -200,7 +184,7 @@ module _ (n : ℕ) (before : ℕ → ℕ → Type 0) where
   order_of_all o a = record {
     same = λ k. elim (nat_lt k n) as (λ b. nat_lt k n ≡ b → times k o ≡ times k (up_from 0 n)) [
       | true ↦ λ e. a.once k (ltb-true k n e) ∙ sym (up_once 0 n k (omega arith) (omega (arith, ltb-true k n e)))
-      | false ↦ λ e. outside n k o a.below (ltb-false k n e) ∙ sym (higher_none 0 n k (omega (arith, ltb-false k n e)))
+      | false ↦ λ e. none_above n k o a.below (ltb-false k n e) ∙ sym (higher_none 0 n k (omega (arith, ltb-false k n e)))
     ] refl;
     kept = a.kept;
   }

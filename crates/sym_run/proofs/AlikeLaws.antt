@@ -1,6 +1,6 @@
 -- Cells tell the same exactly where they stand for the same.
 use Rattle.std.proofs.Common.{◌≡◌, ◌≢◌, ◌⊎◌, inl, inr, ℕ, zero, suc, ◌<◌, ◌==◌, Bool, true, false, cond, List, [], ◌∷◌, length, Option, Some, None, slice_get, refl, sym, ap, subst, ◌∙◌, arith, eqb-true, nat_lt, ltb-true}
-use Rattle.std.proofs.lemmas.Bool.{ltb-false}
+use Rattle.std.proofs.lemmas.Bool.{ltb-false, and_from}
 use Rattle.std.proofs.lemmas.Option.{slice_get_within, slice_get-get_or}
 use Rattle.std.specs.Prelude.{◌↔◌, ◌&&◌, get_or}
 use Rattle.std.specs.Cmp.Lexicographic.{pointwise}
@@ -17,6 +17,8 @@ use Rattle.fs_interpreter.specs.Standing.{Tells, Stands, StandsFor}
 use Rattle.fs_interpreter.specs.declared.cells.Cells.{Cells}
 use Rattle.sym_run.specs.Alike.{same_truth, same_text, same_entry, same_cell, same_cells, same_state, HaveSameWires}
 use Rattle.sym_run.proofs.NumberLaws.{eqb_is}
+use Rattle.fs_interpreter.proofs.RunLaws.{first}
+use Rattle.fs_semantics.proofs.Puts.{and_right}
 
 -- a truth value is told to be the same as itself
 truth_same : (x : Bool) → same_truth x x ≡ true
@@ -30,31 +32,16 @@ same_is true false h = sym h
 same_is false true h = h
 same_is false false h = refl
 
--- of a conjunction that is true the left side is true
-pub left : (a b : Bool) → (a && b) ≡ true → a ≡ true
-left true b h = refl
-left false b h = h
-
--- of a conjunction that is true the right side is true
-pub right : (a b : Bool) → (a && b) ≡ true → b ≡ true
-right true b h = h
-right false true h = refl
-right false false h = h
-
--- a conjunction of two that are true is true
-pub both : (a b : Bool) → a ≡ true → b ≡ true → (a && b) ≡ true
-both a b h k = λ i. h i && k i
-
 -- lists of which a test finds the same at each place, and the test tells what is the same
 pub pointwise_same : {X : Type 0} (e : X → X → Bool) (xs ys : List X) → pointwise e xs ys ≡ true → ((x y : X) → e x y ≡ true → x ≡ y) → xs ≡ ys
 pointwise_same e [] [] h same = refl
 pointwise_same e [] (y ∷ ys) h same = cc
 pointwise_same e (x ∷ xs) [] h same = cc
-pointwise_same e (x ∷ xs) (y ∷ ys) h same = λ i. same x y (left (e x y) (pointwise e xs ys) h) i ∷ pointwise_same e xs ys (right (e x y) (pointwise e xs ys) h) same i
+pointwise_same e (x ∷ xs) (y ∷ ys) h same = λ i. same x y (first (e x y) (pointwise e xs ys) h) i ∷ pointwise_same e xs ys (and_right (e x y) (pointwise e xs ys) h) same i
 
 -- a cell tells what it tells
 pub same_itself : (c : Cell) → same_cell c c ≡ true
-same_itself c = both (same_truth c.present c.present) (cond c.present (same_entry c c) true) (truth_same c.present) (when c.present (same_entry c c) (both (same_truth c.folder c.folder) (cond c.folder true (same_text c c)) (truth_same c.folder) (unless c.folder (same_text c c) (both (same_truth c.link c.link) (c.content == c.content) (truth_same c.link) (eqb_is c.content c.content refl)))))
+same_itself c = and_from (same_truth c.present c.present) (cond c.present (same_entry c c) true) (truth_same c.present) (when c.present (same_entry c c) (and_from (same_truth c.folder c.folder) (cond c.folder true (same_text c c)) (truth_same c.folder) (unless c.folder (same_text c c) (and_from (same_truth c.link c.link) (c.content == c.content) (truth_same c.link) (eqb_is c.content c.content refl)))))
   where
     when : (b x : Bool) → x ≡ true → cond b x true ≡ true
     when true x h = h
@@ -82,27 +69,27 @@ unless_false false x e h = h
 
 -- the other cell tells what the one tells
 tells_too : (contents : List (List ℕ)) (c d : Cell) (o : Option Entry) → same_cell c d ≡ true → Tells contents c o → Tells contents d o
-tells_too contents c d None h t = sym (same_is c.present d.present (left (same_truth c.present d.present) (cond c.present (same_entry c d) true) h)) ∙ t
+tells_too contents c d None h t = sym (same_is c.present d.present (first (same_truth c.present d.present) (cond c.present (same_entry c d) true) h)) ∙ t
 tells_too contents c d (Some Folder) h t =
-    let present = same_is c.present d.present (left (same_truth c.present d.present) (cond c.present (same_entry c d) true) h) in
-    let entry = where_true c.present (same_entry c d) t.0 (right (same_truth c.present d.present) (cond c.present (same_entry c d) true) h) in
-    let folder = same_is c.folder d.folder (left (same_truth c.folder d.folder) (cond c.folder true (same_text c d)) entry) in
+    let present = same_is c.present d.present (first (same_truth c.present d.present) (cond c.present (same_entry c d) true) h) in
+    let entry = where_true c.present (same_entry c d) t.0 (and_right (same_truth c.present d.present) (cond c.present (same_entry c d) true) h) in
+    let folder = same_is c.folder d.folder (first (same_truth c.folder d.folder) (cond c.folder true (same_text c d)) entry) in
     (sym present ∙ t.0, sym folder ∙ t.1)
 tells_too contents c d (Some (File x)) h t =
-    let present = same_is c.present d.present (left (same_truth c.present d.present) (cond c.present (same_entry c d) true) h) in
-    let entry = where_true c.present (same_entry c d) t.0 (right (same_truth c.present d.present) (cond c.present (same_entry c d) true) h) in
-    let folder = same_is c.folder d.folder (left (same_truth c.folder d.folder) (cond c.folder true (same_text c d)) entry) in
-    let text = unless_false c.folder (same_text c d) t.1 (right (same_truth c.folder d.folder) (cond c.folder true (same_text c d)) entry) in
-    let link = same_is c.link d.link (left (same_truth c.link d.link) (c.content == d.content) text) in
-    let content = eqb-true c.content d.content (right (same_truth c.link d.link) (c.content == d.content) text) in
+    let present = same_is c.present d.present (first (same_truth c.present d.present) (cond c.present (same_entry c d) true) h) in
+    let entry = where_true c.present (same_entry c d) t.0 (and_right (same_truth c.present d.present) (cond c.present (same_entry c d) true) h) in
+    let folder = same_is c.folder d.folder (first (same_truth c.folder d.folder) (cond c.folder true (same_text c d)) entry) in
+    let text = unless_false c.folder (same_text c d) t.1 (and_right (same_truth c.folder d.folder) (cond c.folder true (same_text c d)) entry) in
+    let link = same_is c.link d.link (first (same_truth c.link d.link) (c.content == d.content) text) in
+    let content = eqb-true c.content d.content (and_right (same_truth c.link d.link) (c.content == d.content) text) in
     (sym present ∙ t.0, sym folder ∙ t.1, sym link ∙ t.2, ap (slice_get contents) (sym content) ∙ t.3)
 tells_too contents c d (Some (Link x)) h t =
-    let present = same_is c.present d.present (left (same_truth c.present d.present) (cond c.present (same_entry c d) true) h) in
-    let entry = where_true c.present (same_entry c d) t.0 (right (same_truth c.present d.present) (cond c.present (same_entry c d) true) h) in
-    let folder = same_is c.folder d.folder (left (same_truth c.folder d.folder) (cond c.folder true (same_text c d)) entry) in
-    let text = unless_false c.folder (same_text c d) t.1 (right (same_truth c.folder d.folder) (cond c.folder true (same_text c d)) entry) in
-    let link = same_is c.link d.link (left (same_truth c.link d.link) (c.content == d.content) text) in
-    let content = eqb-true c.content d.content (right (same_truth c.link d.link) (c.content == d.content) text) in
+    let present = same_is c.present d.present (first (same_truth c.present d.present) (cond c.present (same_entry c d) true) h) in
+    let entry = where_true c.present (same_entry c d) t.0 (and_right (same_truth c.present d.present) (cond c.present (same_entry c d) true) h) in
+    let folder = same_is c.folder d.folder (first (same_truth c.folder d.folder) (cond c.folder true (same_text c d)) entry) in
+    let text = unless_false c.folder (same_text c d) t.1 (and_right (same_truth c.folder d.folder) (cond c.folder true (same_text c d)) entry) in
+    let link = same_is c.link d.link (first (same_truth c.link d.link) (c.content == d.content) text) in
+    let content = eqb-true c.content d.content (and_right (same_truth c.link d.link) (c.content == d.content) text) in
     (sym present ∙ t.0, sym folder ∙ t.1, sym link ∙ t.2, ap (slice_get contents) (sym content) ∙ t.3)
 
 -- cells with the same three bits and the same content tell the same
@@ -121,15 +108,15 @@ both_tell table c d (Some (Link x)) is h k = made_same c d true false true h.0 k
 all_same : (a b : Cellwise) (n : ℕ) → same_cells a b n ≡ true → (i : ℕ) → i < n → same_cell (a i) (b i) ≡ true
 all_same a b zero h i k = absurd (omega arith)
 all_same a b (suc n) h i k = elim (nat_lt i n) as (λ c. nat_lt i n ≡ c → same_cell (a i) (b i) ≡ true) [
-  | true ↦ λ e. all_same a b n (left (same_cells a b n) (same_cell (a n) (b n)) h) i (ltb-true i n e)
+  | true ↦ λ e. all_same a b n (first (same_cells a b n) (same_cell (a n) (b n)) h) i (ltb-true i n e)
   | false ↦ λ e. let past = ltb-false i n e in let here : n ≡ i = omega (arith, k, past) in
-      subst (λ j. same_cell (a j) (b j) ≡ true) here (right (same_cells a b n) (same_cell (a n) (b n)) h)
+      subst (λ j. same_cell (a j) (b j) ≡ true) here (and_right (same_cells a b n) (same_cell (a n) (b n)) h)
 ] refl
 
 -- and cells that are so at each of them are told to be
 same_all : (a b : Cellwise) (n : ℕ) → ((i : ℕ) → i < n → same_cell (a i) (b i) ≡ true) → same_cells a b n ≡ true
 same_all a b zero h = refl
-same_all a b (suc n) h = both (same_cells a b n) (same_cell (a n) (b n)) (same_all a b n (λ i k. h i (omega (arith, k)))) (h n (omega arith))
+same_all a b (suc n) h = and_from (same_cells a b n) (same_cell (a n) (b n)) (same_all a b n (λ i k. h i (omega (arith, k)))) (h n (omega arith))
 
 -- trees with the same at each path are the same
 abbrev pub SameMaps : Type 0
@@ -141,7 +128,7 @@ OneEntry = (contents : List (List ℕ)) (c : Cell) (x y : Option Entry) → Tell
 
 -- states that are told to be the same are both Error or neither is
 cond_or : (s t : Bool) (x : Bool) → (same_truth s t && cond s true x) ≡ true → s ≡ t
-cond_or s t x h = same_is s t (left (same_truth s t) (cond s true x) h)
+cond_or s t x h = same_is s t (first (same_truth s t) (cond s true x) h)
 
 -- a path stands at some place of the table or at none
 pub somewhere : (table : Listed) (p : Path) → ((i : ℕ) × (slice_get table.paths i ≡ Some p)) ⊎ ((i : ℕ) → slice_get table.paths i ≢ Some p)
@@ -180,7 +167,7 @@ alike_exactly maps one table s t (Some x) None is so tu = (
   (λ h. cc),
 )
 alike_exactly maps one table s t (Some x) (Some y) is so tu = (
-  (λ h. ap Some (trees_same maps one table s t x y so tu (unless_false s.error (same_cells s.cell t.cell (length table.paths)) so.no_error (right (same_truth s.error t.error) (cond s.error true (same_cells s.cell t.cell (length table.paths))) h)))),
+  (λ h. ap Some (trees_same maps one table s t x y so tu (unless_false s.error (same_cells s.cell t.cell (length table.paths)) so.no_error (and_right (same_truth s.error t.error) (cond s.error true (same_cells s.cell t.cell (length table.paths))) h)))),
   (λ h. let same : x ≡ y = cc in
       let cells = cells_same table s t y is (subst (Stands table s) same so) tu in
       λ i. same_truth (so.no_error i) (tu.no_error i) && cond (so.no_error i) true (cells i)),

@@ -8,17 +8,8 @@ use Rattle.fs_interpreter.specs.Meanings.{Valuation, Meanings, Grows}
 use Rattle.fs_interpreter.specs.States.{State, state_of, truth, number}
 use Rattle.fs_interpreter.specs.declared.cells.Cells.{Cells}
 use Rattle.sym_run.specs.Bitwise.{AreOwnBits, AreOwnCodes, AreBits, AreCodes, BitsSoFar, CodesSoFar, bit_at, code_at}
-
--- what stands in a list stands at the same place when more comes behind it
-get_before : {X : Type 0} (xs ys : List X) (k : ℕ) → k < length xs → slice_get (xs ++ ys) k ≡ slice_get xs k
-get_before [] ys k h = absurd (omega arith)
-get_before (x ∷ xs) ys zero h = refl
-get_before (x ∷ xs) ys (suc k) h = get_before xs ys k (omega arith)
-
--- the last one stands at the end
-get_last : {X : Type 0} (xs : List X) (x : X) → slice_get (xs ++ x ∷ []) (length xs) ≡ Some x
-get_last [] x = refl
-get_last (y ∷ xs) x = get_last xs x
+use Rattle.rh_base.proofs.Lists.{get_last}
+use Rattle.fs_replay.proofs.StandLaws.{get_before, same_or_below}
 
 -- what holds of all of a list and of one more holds of all with that one at the end
 all_pushed : {X : Type 0} (P : X → Type 0) (xs : List X) (x : X) → P x → ((i : ℕ) (y : X) → slice_get xs i ≡ Some y → P y) → (i : ℕ) (y : X) → slice_get (xs ++ x ∷ []) i ≡ Some y → P y
@@ -26,13 +17,6 @@ all_pushed P [] x p all zero y e = let same : x ≡ y = cc in subst P same p
 all_pushed P [] x p all (suc i) y e = cc
 all_pushed P (z ∷ xs) x p all zero y e = all zero y e
 all_pushed P (z ∷ xs) x p all (suc i) y e = all_pushed P xs x p (λ j w. all (suc j) w) i y e
-
--- a number below one more than n is below n or n itself
-below_or_same : (k n : ℕ) → k < n + 1 → (k < n) ⊎ (k ≡ n)
-below_or_same k n h = elim (nat_lt k n) as (λ b. nat_lt k n ≡ b → (k < n) ⊎ (k ≡ n)) [
-  | true ↦ λ e. inl (ltb-true k n e)
-  | false ↦ λ e. let low = ltb-false k n e in inr (omega (arith, h, low))
-] refl
 
 -- bits that are one's own mean the same at each place as bits grow
 pub bit_stays : {Bit Code : Type 0} (m n : Meanings Bit Code) (bs : List Bit) → Grows m n → AreOwnBits m bs → (v : Valuation) (i : ℕ) → bit_at n v bs i ≡ bit_at m v bs i
@@ -64,7 +48,7 @@ pub bits_more : {Bit Code : Type 0} (m n : Meanings Bit Code) (meaning : Valuati
 bits_more m n meaning k bs b g so_far own means = record {
   long = length_push bs b ∙ ap (λ j. j + 1) so_far.long;
   owned = all_pushed n.owns bs b own (own_later m n bs g so_far.owned);
-  mean = λ v i h. elim (below_or_same i k h) [
+  mean = λ v i h. elim (same_or_below i k h) [
     | inl below ↦ ap (truth (n.bit v)) (get_before bs (b ∷ []) i (subst (λ j. i < j) (sym so_far.long) below)) ∙ bit_stays m n bs g so_far.owned v i ∙ so_far.mean v i below
     | inr here ↦ ap (truth (n.bit v)) (ap (slice_get (bs ++ b ∷ [])) (here ∙ sym so_far.long) ∙ get_last bs b) ∙ means v ∙ ap (meaning v) (sym here)
   ];
@@ -76,7 +60,7 @@ pub codes_more : {Bit Code : Type 0} (m n : Meanings Bit Code) (meaning : Valuat
 codes_more m n meaning k cs x g so_far own means = record {
   long = length_push cs x ∙ ap (λ j. j + 1) so_far.long;
   owned = all_pushed n.owns_code cs x own (own_codes_later m n cs g so_far.owned);
-  mean = λ v i h. elim (below_or_same i k h) [
+  mean = λ v i h. elim (same_or_below i k h) [
     | inl below ↦ ap (number (n.code v)) (get_before cs (x ∷ []) i (subst (λ j. i < j) (sym so_far.long) below)) ∙ code_stays m n cs g so_far.owned v i ∙ so_far.mean v i below
     | inr here ↦ ap (number (n.code v)) (ap (slice_get (cs ++ x ∷ [])) (here ∙ sym so_far.long) ∙ get_last cs x) ∙ means v ∙ ap (meaning v) (sym here)
   ];

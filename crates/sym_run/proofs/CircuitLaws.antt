@@ -2,7 +2,7 @@
 use Rattle.std.proofs.Common.{◌≡◌, ℕ, zero, suc, ◌+◌, ◌*◌, ◌<◌, ◌≤◌, ◌==◌, Bool, true, false, cond, List, [], ◌∷◌, ◌++◌, length, drop, ◌/◌, ◌%◌, refl, sym, ap, ◌∙◌, arith, eqb-true}
 use Rattle.std.proofs.lemmas.Bool.{eqb-false}
 use Rattle.std.proofs.Math.Nat.{div-add-mod}
-use Rattle.std.specs.Prelude.{◌&&◌, not, Result, Ok, Err, IfOk, get_or}
+use Rattle.std.specs.Prelude.{◌&&◌, not, get_or}
 use Rattle.std.specs.List.{AllByRecursion}
 use Rattle.bool_circuit.specs.declared.gate.Wire.{Wire}
 use Rattle.bool_circuit.specs.declared.gate.Gate.{Gate}
@@ -70,11 +70,6 @@ wires_front n (x ∷ ws) w all = (all.0, wires_front n ws w all.1)
 pub wires_last : (n : ℕ) (ws : List Wire) (w : Wire) → AllByRecursion (λ x. x.0 < n) (ws ++ w ∷ []) → w.0 < n
 wires_last n [] w all = all.0
 wires_last n (x ∷ ws) w all = wires_last n ws w all.1
-
--- what follows from a property of an Ok result holds of it
-pub if_ok : {X E : Type 0} (P Q : X → Type 0) (r : Result X E) → ((x : X) → P x → Q x) → IfOk r P → IfOk r Q
-if_ok P Q (Ok x) f h = f x h
-if_ok P Q (Err e) f h = tt
 
 -- a circuit that grows twice keeps the values of its first wires
 pub grows_on : (a b c : List Gate) → gates.Grows a b → gates.Grows b c → (inputs : ℕ → Bool) (k : ℕ) → k < length a → gates.wire_value c inputs k ≡ gates.wire_value a inputs k

@@ -1,6 +1,6 @@
 -- Trees for which cells stand are those over the domain.
 use Rattle.std.proofs.Common.{◌≡◌, ◌≢◌, ◌⊎◌, inl, inr, ℕ, zero, suc, ◌-◌, ◌<◌, ◌≤◌, Bool, true, false, cond, List, [], ◌∷◌, length, map, Option, Some, None, slice_get, refl, sym, ap, subst, ◌∙◌, arith, nat_lt, ltb-true, is_some, IsTrue}
-use Rattle.std.proofs.lemmas.Bool.{ltb-false}
+use Rattle.std.proofs.lemmas.Bool.{ltb-false, or_right, or_left, or_cases}
 use Rattle.std.proofs.lemmas.Option.{slice_get_within, slice_get-get_or}
 use Rattle.std.proofs.lemmas.Map.Views.{any-filter_same}
 use Rattle.std.specs.Prelude.{not, ◌||◌, filter, get_or, slice_index_or}
@@ -21,32 +21,18 @@ use Rattle.sym_run.specs.Trees.{IsTreeOver, cell_for}
 use Rattle.sym_run.proofs.AlikeLaws.{somewhere}
 use Rattle.sym_run.proofs.TreeLaws.{path_is, text_in, nothing_has_text, nothing_there}
 
--- a disjunction with a true left side is true
-or_first : (a b : Bool) → a ≡ true → (a || b) ≡ true
-or_first a b h = ap (λ c. c || b) h
-
--- a disjunction with a true right side is true
-or_second : (a b : Bool) → b ≡ true → (a || b) ≡ true
-or_second true b h = refl
-or_second false b h = h
-
--- of a disjunction that is true one side is true
-or_either : (a b : Bool) → (a || b) ≡ true → (a ≡ true) ⊎ (b ≡ true)
-or_either true b h = inl refl
-or_either false b h = inr h
-
 -- ---- what is at a place is among all
 
 -- a path that stands at a place is among all
 path_among : (ps : List Path) (i : ℕ) (p : Path) → slice_get ps i ≡ Some p → is_among p ps ≡ true
 path_among [] i p h = cc
-path_among (q ∷ ps) zero p h = let same : q ≡ p = cc in or_first (path_eq p q) (is_among p ps) (ap (path_eq p) same ∙ path_eq_refl p)
-path_among (q ∷ ps) (suc i) p h = or_second (path_eq p q) (is_among p ps) (path_among ps i p h)
+path_among (q ∷ ps) zero p h = let same : q ≡ p = cc in or_left (path_eq p q) (is_among p ps) (ap (path_eq p) same ∙ path_eq_refl p)
+path_among (q ∷ ps) (suc i) p h = or_right (path_eq p q) (is_among p ps) (path_among ps i p h)
 
 -- and one that is among all stands at some place
 among_path : (ps : List Path) (p : Path) → is_among p ps ≡ true → (i : ℕ) × (slice_get ps i ≡ Some p)
 among_path [] p h = cc
-among_path (q ∷ ps) p h = elim (or_either (path_eq p q) (is_among p ps) h) [
+among_path (q ∷ ps) p h = elim (or_cases (path_eq p q) (is_among p ps) h) [
   | inl here ↦ (0, ap Some (sym (path_eq_same p q here)))
   | inr there ↦ let more = among_path ps p there in (suc more.0, more.1)
 ]
@@ -54,13 +40,13 @@ among_path (q ∷ ps) p h = elim (or_either (path_eq p q) (is_among p ps) h) [
 -- a text that stands at a place is among all
 text_among : (cs : List (List ℕ)) (i : ℕ) (c : List ℕ) → slice_get cs i ≡ Some c → is_text_among c cs ≡ true
 text_among [] i c h = cc
-text_among (d ∷ cs) zero c h = let same : d ≡ c = cc in or_first (text_eq c d) (is_text_among c cs) (text_itself c d (sym same))
-text_among (d ∷ cs) (suc i) c h = or_second (text_eq c d) (is_text_among c cs) (text_among cs i c h)
+text_among (d ∷ cs) zero c h = let same : d ≡ c = cc in or_left (text_eq c d) (is_text_among c cs) (text_itself c d (sym same))
+text_among (d ∷ cs) (suc i) c h = or_right (text_eq c d) (is_text_among c cs) (text_among cs i c h)
 
 -- and one that is among all stands at some place
 among_text : (cs : List (List ℕ)) (c : List ℕ) → is_text_among c cs ≡ true → (i : ℕ) × (slice_get cs i ≡ Some c)
 among_text [] c h = cc
-among_text (d ∷ cs) c h = elim (or_either (text_eq c d) (is_text_among c cs) h) [
+among_text (d ∷ cs) c h = elim (or_cases (text_eq c d) (is_text_among c cs) h) [
   | inl here ↦ (0, ap Some (sym (text_same c d here)))
   | inr there ↦ let more = among_text cs c there in (suc more.0, more.1)
 ]
@@ -74,19 +60,19 @@ kept ps fresh p h = any-filter_same (path_eq p) (λ q. not (is_among q fresh)) t
 -- each path of a layout is named in its domain or is a fresh child there
 known_or_fresh : (l : Layout) (p : Path) → is_among p l.paths ≡ true → ((is_root p || is_among p (domain_of l).named) || is_among p (domain_of l).fresh) ≡ true
 known_or_fresh l p h = elim (is_among p (fresh_paths l)) as (λ b. is_among p (fresh_paths l) ≡ b → ((is_root p || is_among p (domain_of l).named) || is_among p (fresh_paths l)) ≡ true) [
-  | true ↦ λ e. or_second (is_root p || is_among p (domain_of l).named) (is_among p (fresh_paths l)) e
-  | false ↦ λ e. or_first (is_root p || is_among p (domain_of l).named) (is_among p (fresh_paths l)) (or_second (is_root p) (is_among p (domain_of l).named) (kept l.paths (fresh_paths l) p e ∙ h))
+  | true ↦ λ e. or_right (is_root p || is_among p (domain_of l).named) (is_among p (fresh_paths l)) e
+  | false ↦ λ e. or_left (is_root p || is_among p (domain_of l).named) (is_among p (fresh_paths l)) (or_right (is_root p) (is_among p (domain_of l).named) (kept l.paths (fresh_paths l) p e ∙ h))
 ] refl
 
 -- a path among those that pass a test is among all
 filtered : (f : Path → Bool) (ps : List Path) (p : Path) → is_among p (filter f ps) ≡ true → is_among p ps ≡ true
 filtered f [] p h = h
 filtered f (q ∷ ps) p h = elim (f q) as (λ b. is_among p (cond b (q ∷ filter f ps) (filter f ps)) ≡ true → (path_eq p q || is_among p ps) ≡ true) [
-  | true ↦ λ k. elim (or_either (path_eq p q) (is_among p (filter f ps)) k) [
-    | inl here ↦ or_first (path_eq p q) (is_among p ps) here
-    | inr there ↦ or_second (path_eq p q) (is_among p ps) (filtered f ps p there)
+  | true ↦ λ k. elim (or_cases (path_eq p q) (is_among p (filter f ps)) k) [
+    | inl here ↦ or_left (path_eq p q) (is_among p ps) here
+    | inr there ↦ or_right (path_eq p q) (is_among p ps) (filtered f ps p there)
   ]
-  | false ↦ λ k. or_second (path_eq p q) (is_among p ps) (filtered f ps p k)
+  | false ↦ λ k. or_right (path_eq p q) (is_among p ps) (filtered f ps p k)
 ] h
 
 -- what stands in the image of a list is the image of some number
@@ -115,8 +101,8 @@ root_is (s ∷ p) h = cc
 
 -- a path but the root that is named in the domain or a fresh child there is in the layout
 laid : (l : Layout) (p : Path) → p ≢ [] → ((is_root p || is_among p (domain_of l).named) || is_among p (domain_of l).fresh) ≡ true → (i : ℕ) × (slice_get l.paths i ≡ Some p)
-laid l p h e = elim (or_either (is_root p || is_among p (domain_of l).named) (is_among p (fresh_paths l)) e) [
-  | inl known ↦ elim (or_either (is_root p) (is_among p (domain_of l).named) known) [
+laid l p h e = elim (or_cases (is_root p || is_among p (domain_of l).named) (is_among p (fresh_paths l)) e) [
+  | inl known ↦ elim (or_cases (is_root p) (is_among p (domain_of l).named) known) [
     | inl root ↦ absurd (h (root_is p root))
     | inr named ↦ among_path l.paths p (filtered (λ q. not (is_among q (fresh_paths l))) l.paths p named)
   ]

@@ -1,11 +1,11 @@
 -- Cells that fit stand for a tree, and only they.
 use Rattle.std.proofs.Common.{◌≡◌, ◌≢◌, inl, inr, ℕ, zero, suc, ◌<◌, ◌≤◌, Bool, true, false, cond, List, [], ◌∷◌, length, Option, Some, None, slice_get, refl, sym, ap, subst, ◌∙◌, arith, nat_lt, ltb-true, is_some, IsTrue}
-use Rattle.std.proofs.lemmas.Bool.{ltb-false, lt-ltb}
+use Rattle.std.proofs.lemmas.Bool.{ltb-false, lt-ltb, and_from}
 use Rattle.std.proofs.lemmas.Option.{slice_get_within, slice_get-get_or}
 use Rattle.std.specs.Prelude.{◌&&◌, get_or, slice_index_or}
 use Rattle.std.specs.List.{AllByRecursion}
 use Rattle.std.specs.FinMap as map
-use Rattle.fs_semantics.specs.FileTree.{Path, Tree, Entry, Folder, File, Link, IsTree, IsSegment, IsBytes, HasText, parent, is_dir, is_folder_entry}
+use Rattle.fs_semantics.specs.FileTree.{Path, Tree, Entry, Folder, File, Link, IsTree, IsSegment, IsBytes, HasText, parent, is_dir}
 use Rattle.fs_semantics.specs.Entries.{IsWith}
 use Rattle.fs_interpreter.specs.Places.{Listed, IsTable, place_in}
 use Rattle.fs_interpreter.specs.States.{Cell, State}
@@ -15,7 +15,10 @@ use Rattle.fs_interpreter.proofs.SearchLaws.{place_there, place_nowhere}
 use Rattle.sym_run.specs.Fitting.{fits_at, all_fit}
 use Rattle.fs_replay.specs.Told.{with_entry}
 use Rattle.sym_run.specs.Trees.{entry_in, grown}
-use Rattle.sym_run.proofs.AlikeLaws.{somewhere, left, right, both, where_true, unless_false}
+use Rattle.sym_run.proofs.AlikeLaws.{somewhere, where_true, unless_false}
+use Rattle.fs_interpreter.proofs.RunLaws.{dir_entry, first}
+use Rattle.fs_interpreter.proofs.TestLaws.{cell_dir}
+use Rattle.fs_semantics.proofs.Puts.{and_right}
 
 -- what it means that a cell fits
 pub record Fits (table : Listed) (cell : Cellwise) (i : ℕ) (p : Path) : Type 0 where
@@ -26,15 +29,15 @@ pub record Fits (table : Listed) (cell : Cellwise) (i : ℕ) (p : Path) : Type 0
 pub all_at : (table : Listed) (cell : Cellwise) (n : ℕ) → all_fit table cell n ≡ true → (i : ℕ) → i < n → fits_at table cell i ≡ true
 all_at table cell zero h i k = absurd (omega arith)
 all_at table cell (suc n) h i k = elim (nat_lt i n) as (λ c. nat_lt i n ≡ c → fits_at table cell i ≡ true) [
-  | true ↦ λ e. all_at table cell n (left (all_fit table cell n) (fits_at table cell n) h) i (ltb-true i n e)
+  | true ↦ λ e. all_at table cell n (first (all_fit table cell n) (fits_at table cell n) h) i (ltb-true i n e)
   | false ↦ λ e. let past = ltb-false i n e in let here : n ≡ i = omega (arith, k, past) in
-      subst (λ j. fits_at table cell j ≡ true) here (right (all_fit table cell n) (fits_at table cell n) h)
+      subst (λ j. fits_at table cell j ≡ true) here (and_right (all_fit table cell n) (fits_at table cell n) h)
 ] refl
 
 -- and where each of them is, all are
 pub at_all : (table : Listed) (cell : Cellwise) (n : ℕ) → ((i : ℕ) → i < n → fits_at table cell i ≡ true) → all_fit table cell n ≡ true
 at_all table cell zero h = refl
-at_all table cell (suc n) h = both (all_fit table cell n) (fits_at table cell n) (at_all table cell n (λ i k. h i (omega (arith, k)))) (h n (omega arith))
+at_all table cell (suc n) h = and_from (all_fit table cell n) (fits_at table cell n) (at_all table cell n (λ i k. h i (omega (arith, k)))) (h n (omega arith))
 
 -- what a condition implies is so under that condition
 when : (b x : Bool) → (b ≡ true → x ≡ true) → cond b x true ≡ true
@@ -59,9 +62,9 @@ fits_means table cell i p at h =
     let known = nat_lt (cell i).content (length table.contents) in
     record {
       above = λ there. subst (λ r. dir_at (place_in table.paths (parent r)) cell ≡ true) (path_is table.paths i p at)
-          (left (dir_at (place_in table.paths (parent q)) cell) (cond (cell i).folder true known) (where_true (cell i).present _ there h));
+          (first (dir_at (place_in table.paths (parent q)) cell) (cond (cell i).folder true known) (where_true (cell i).present _ there h));
       known = λ there text. ltb-true (cell i).content (length table.contents)
-          (unless_false (cell i).folder known text (right (dir_at (place_in table.paths (parent q)) cell) (cond (cell i).folder true known) (where_true (cell i).present _ there h)));
+          (unless_false (cell i).folder known text (and_right (dir_at (place_in table.paths (parent q)) cell) (cond (cell i).folder true known) (where_true (cell i).present _ there h)));
     }
 
 -- and a cell that fits is told to
@@ -69,7 +72,7 @@ pub means_fits : (table : Listed) (cell : Cellwise) (i : ℕ) (p : Path) → sli
 means_fits table cell i p at f =
     let q = slice_index_or table.paths i [] in
     let known = nat_lt (cell i).content (length table.contents) in
-    when (cell i).present _ (λ there. both (dir_at (place_in table.paths (parent q)) cell) (cond (cell i).folder true known)
+    when (cell i).present _ (λ there. and_from (dir_at (place_in table.paths (parent q)) cell) (cond (cell i).folder true known)
     (subst (λ r. dir_at (place_in table.paths (parent r)) cell ≡ true) (sym (path_is table.paths i p at)) (f.above there))
     (unless (cell i).folder known (λ text. lt-ltb (cell i).content (length table.contents) (f.known there text))))
 
@@ -167,18 +170,6 @@ known_is contents c (Some Folder) h p f = let clash : ◌≡◌ {A = Bool} true 
 known_is contents c (Some (File x)) h p f = slice_get_within contents c.content x h.3
 known_is contents c (Some (Link x)) h p f = slice_get_within contents c.content x h.3
 
--- by its cell an entry is a folder exactly where it is one
-dir_cell : (contents : List (List ℕ)) (c : Cell) (o : Option Entry) → Tells contents c o → (c.present && c.folder) ≡ is_folder_entry o
-dir_cell contents c None h = ap (λ b. b && c.folder) h
-dir_cell contents c (Some Folder) h = λ i. h.0 i && h.1 i
-dir_cell contents c (Some (File x)) h = λ i. h.0 i && h.1 i
-dir_cell contents c (Some (Link x)) h = λ i. h.0 i && h.1 i
-
--- a path but the root is a folder where its entry is one
-dir_told : (t : Tree) (p : Path) → p ≢ [] → is_dir t p ≡ is_folder_entry (map.get t p)
-dir_told t [] h = absurd (h refl)
-dir_told t (s ∷ p) h = refl
-
 -- whether a folder is above a path of the table
 dir_above : (table : Listed) (s : State) (t : Tree) (i : ℕ) (p : Path) → IsTable table → Stands table s t → slice_get table.paths i ≡ Some p → dir_at (place_in table.paths (parent p)) s.cell ≡ is_dir t (parent p)
 dir_above table s t i p is st at = by_place (place_in table.paths (parent p)) refl
@@ -189,8 +180,8 @@ dir_above table s t i p is st at = by_place (place_in table.paths (parent p)) re
       | inr there ↦ absurd (place_nowhere table.paths (parent p) e there.0 there.1)
     ]
     by_place (Some j) e = let there = place_there table.paths (parent p) j e in
-        dir_cell table.contents (s.cell j) (map.get t (parent p)) (st.tells j (parent p) there)
-        ∙ sym (dir_told t (parent p) (λ top. is.no_root j (there ∙ ap Some top)))
+        cell_dir table.contents (s.cell j) (map.get t (parent p)) (st.tells j (parent p) there)
+        ∙ sym (dir_entry t (parent p) (λ top. is.no_root j (there ∙ ap Some top)))
 
 -- cells that stand for a file tree fit
 pub stands_fits : (table : Listed) (s : State) (t : Tree) → IsTable table → Stands table s t → IsTree t → (i : ℕ) (p : Path) → slice_get table.paths i ≡ Some p → Fits table s.cell i p

@@ -2,14 +2,4 @@
 #![tactic(auto)]
 
 #[cfg(test)]
-mod answers;
-#[cfg(test)]
-mod expressions;
-#[cfg(test)]
-mod manifests;
-#[cfg(test)]
-mod nesting;
-#[cfg(test)]
-mod statements;
-#[cfg(test)]
-mod tokens;
+mod tests;

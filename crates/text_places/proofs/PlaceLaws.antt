@@ -2,6 +2,7 @@
 use Rattle.std.proofs.Common.{◌≡◌, ◌≢◌, ◌⊎◌, inl, inr, ℕ, zero, suc, ◌+◌, ◌<◌, ◌≤◌, ◌==◌, true, false, cond, List, [], ◌∷◌, ◌++◌, length, take, get_or, refl, sym, ap, subst, ◌∙◌, arith, eqb-true}
 use Rattle.std.specs.List.{AllByRecursion}
 use Rattle.text_places.specs.Places.{line_feeds, AreLines, IsPlace}
+use Rattle.std.proofs.lemmas.List.{append-nil}
 
 -- what was read ahead: whole lines, and what was begun of the next
 pub record IsRead (text : List ℕ) (line column : ℕ) : Type 0 where
@@ -22,11 +23,6 @@ feeds_append (x ∷ a) b = let rest = feeds_append a b in omega (arith, rest)
 append_assoc : (a b d : List ℕ) → (a ++ b) ++ d ≡ a ++ (b ++ d)
 append_assoc [] b d = refl
 append_assoc (x ∷ a) b d = ap (λ o. x ∷ o) (append_assoc a b d)
-
--- nothing behind a text leaves the text
-append_none : (a : List ℕ) → a ++ [] ≡ a
-append_none [] = refl
-append_none (x ∷ a) = ap (λ o. x ∷ o) (append_none a)
 
 -- two texts joined are as long as both together
 length_append : (a b : List ℕ) → length (a ++ b) ≡ length a + length b
@@ -58,7 +54,7 @@ feed_read text b line column e r =
     record {
       lines = text ++ b ∷ [];
       begun = [];
-      ahead = sym (append_none (text ++ b ∷ []));
+      ahead = sym (append-nil (text ++ b ∷ []));
       whole = inr (text, ap (λ x. text ++ x ∷ []) e);
       within = tt;
       line_is = omega (arith, more, one, was);

@@ -2,8 +2,4 @@
 #![tactic(auto)]
 
 #[cfg(test)]
-mod names;
-#[cfg(test)]
-mod programs;
-#[cfg(test)]
-mod trees;
+mod tests;

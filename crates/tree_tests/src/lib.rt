@@ -2,10 +2,4 @@
 #![tactic(auto)]
 
 #[cfg(test)]
-mod answers;
-#[cfg(test)]
-mod paths;
-#[cfg(test)]
-mod resources;
-#[cfg(test)]
-mod runs;
+mod tests;

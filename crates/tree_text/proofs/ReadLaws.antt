@@ -26,18 +26,16 @@ use Rattle.fs_semantics.specs.FileTree.{Path, Folder, Tree, IsTree, IsSegment, i
 use Rattle.fs_semantics.specs.Entries.{IsFreeAt, IsFolderAt, IsWith}
 use Rattle.fs_lang.specs.PathText.{IsPathText, path_text}
 use Rattle.tree_text.specs.TreeText.{entry_data, HasMember, AreMembers, IsWithinLimits, IsTreeText}
-use Rattle.tree_text.specs.Reading.{IfForm, Fits, IsGrown}
+use Rattle.json_parts.specs.Forms.{IfForm}
+use Rattle.tree_text.specs.Reading.{Fits, IsGrown}
 use Rattle.tree_text.proofs.MemberLaws.{has_left, has_right, has_either}
 use Rattle.tree_text.proofs.WriteLaws.{SameText, SamePath, proper_at}
 use Rattle.tree_text.proofs.TextLaws.{same_entry}
+use Rattle.std.proofs.lemmas.Option.{same_Some}
 
 -- trees with the same entries are the same, as the law of trees says
 abbrev pub SameTree : Type 0
 SameTree = (t u : Tree) → ((p : Path) → map.get t p ≡ map.get u p) → t ≡ u
-
--- what is there twice is one
-some_same : {X : Type 0} (x y : X) → ◌≡◌ {A = Option X} (Some x) (Some y) → x ≡ y
-some_same x y e = cc
 
 -- ---- members tell the tree
 
@@ -96,7 +94,7 @@ grown_members with_entry told es k v t u a g =
       ];
       entry_is_member = λ q y h. elim (told q p) [
         | inl same ↦
-            let entry : x ≡ y = some_same x y (sym (at_new with_entry t u p x g.3) ∙ ap (map.get u) (sym same) ∙ h) in
+            let entry : x ≡ y = same_Some x y (sym (at_new with_entry t u p x g.3) ∙ ap (map.get u) (sym same) ∙ h) in
             has_right (path_text q) (entry_data y) es ((k, v) ∷ []) (inl (ap path_text same ∙ sym fits.is_key.form, ap entry_data (sym entry) ∙ sym fits.value))
         | inr other ↦ has_left (path_text q) (entry_data y) es ((k, v) ∷ []) (a.entry_is_member q y (sym (at_old with_entry t u p x g.3 q other) ∙ h))
       ];

@@ -1,5 +1,5 @@
 -- What JSON that is stored says.
-use Rattle.std.proofs.Common.{◌≡◌, ℕ, ◌≤◌, ◌==◌, Bool, true, false, cond, List, length, Option, Some, None, option_map, option_and_then, codes, refl, sym, ap, subst, ◌∙◌, arith, String, Global, BTreeMap}
+use Rattle.std.proofs.Common.{◌≡◌, ℕ, ◌≤◌, ◌==◌, true, false, cond, List, length, Option, Some, None, option_map, option_and_then, codes, refl, sym, ap, subst, ◌∙◌, arith, String, Global, BTreeMap}
 use Rattle.std.specs.declared.cmp.Ordering.{Ordering}
 use Rattle.std.specs.declared.cmp.Ordering.TheVariants.{Less, Equal, Greater}
 use Rattle.std.specs.Ordering.{nat_cmp, match_ordering}
@@ -19,6 +19,9 @@ use Rattle.tree_text.specs.TreeText.{entry_data, members_of, tree_text}
 use Rattle.tree_text.specs.Reading.{target_in, entry_in}
 use Rattle.tree_text.proofs.MemberLaws.{same_key}
 use Rattle.tree_text.proofs.TextLaws.{no_float, shallow}
+use Rattle.rh_base.proofs.Options.{if_some}
+use Rattle.std.proofs.lemmas.Option.{same_Some}
+use Rattle.json_parts.proofs.DataLaws.{object_is}
 
 -- ---- writing
 
@@ -37,15 +40,6 @@ pub written_read : (m : BTreeMap (String Global) json.Value) (t : Tree) (bytes :
 written_read m t bytes e h = subst (λ d. depth d ≤ max_depth → read bytes ≡ Some d) (stored_is m t e) h (shallow t)
 
 -- ---- links
-
--- JSON that gives members is their object
-object_is : (d : Data) (ms : Members) → as_object d ≡ Some ms → d ≡ object ms
-object_is null ms h = cc
-object_is (boolean b) ms h = cc
-object_is (number n) ms h = cc
-object_is (string s) ms h = cc
-object_is (array items) ms h = cc
-object_is (object found) ms h = let same : found ≡ ms = cc in ap object same
 
 -- the target is looked up in an object of one entry, and else there is none
 pub target_of : (d : Data) (es : List Entry) → as_object d ≡ Some (members_view es)
@@ -66,10 +60,6 @@ target_none d es h one = target_of d es h ∙ ap (λ b. cond b (option_and_then 
 
 -- ---- the entry for which JSON stands
 
--- what is there twice is one
-some_same : {X : Type 0} (x y : X) → ◌≡◌ {A = Option X} (Some x) (Some y) → x ≡ y
-some_same x y e = cc
-
 -- JSON that is there and gives a text is that string
 string_is : (o : Option Data) (s : List ℕ) → option_and_then as_str o ≡ Some s → o ≡ Some (string s)
 string_is None s h = cc
@@ -80,11 +70,6 @@ string_is (Some (string t)) s h = let same : t ≡ s = cc in ap (λ u. Some (str
 string_is (Some (array items)) s h = cc
 string_is (Some (object ms)) s h = cc
 
--- what is there under a condition is there, and the condition holds
-guarded : {Y : Type 0} (t : Bool) (o : Option Y) (y : Y) → cond t o None ≡ Some y → (t ≡ true) × (o ≡ Some y)
-guarded true o y h = (refl, h)
-guarded false o y h = cc
-
 -- an object of one member that has a value under a key is that of the key and the value
 one_member : (ms : Members) (key : List ℕ) (d : Data) → members_len ms ≡ 1 → get_member key ms ≡ Some d → ms ≡ member key d no_members
 one_member no_members key d n h = absurd (omega arith)
@@ -93,24 +78,24 @@ one_member (member k c no_members) key d n h = at (slice_cmp nat_cmp key k) refl
   where
     at : (o : Ordering) → slice_cmp nat_cmp key k ≡ o → match_ordering o None (Some c) None ≡ Some d → member k c no_members ≡ member key d no_members
     at Less s h = cc
-    at Equal s h = let same : c ≡ d = some_same c d h in ap (λ x. member x c no_members) (sym (same_key key k s)) ∙ ap (λ x. member key x no_members) same
+    at Equal s h = let same : c ≡ d = same_Some c d h in ap (λ x. member x c no_members) (sym (same_key key k s)) ∙ ap (λ x. member key x no_members) same
     at Greater s h = cc
 
 -- members with a target are just the one of `link`
 link_is : (ms : Members) (s : List ℕ) → target_in ms ≡ Some s → ms ≡ member (codes "link") (string s) no_members
 link_is ms s h =
-    let two = guarded (members_len ms == 1) (option_and_then as_str (get_member (codes "link") ms)) s h in
+    let two = if_some (members_len ms == 1) (option_and_then as_str (get_member (codes "link") ms)) s h in
     one_member ms (codes "link") (string s) (eqb-true (members_len ms) 1 two.0) (string_is (get_member (codes "link") ms) s two.1)
 
 -- JSON that is read as an entry is what stands for the entry
 pub entry_is : (d : Data) (x : fs.Entry) → entry_in d ≡ Some x → d ≡ entry_data x
-entry_is null x h = ap entry_data (some_same Folder x h)
+entry_is null x h = ap entry_data (same_Some Folder x h)
 entry_is (boolean b) x h = cc
 entry_is (number n) x h = cc
-entry_is (string s) x h = ap entry_data (some_same (File s) x h)
+entry_is (string s) x h = ap entry_data (same_Some (File s) x h)
 entry_is (array items) x h = cc
 entry_is (object ms) x h = at (target_in ms) refl h
   where
     at : (o : Option (List ℕ)) → target_in ms ≡ o → option_map Link o ≡ Some x → object ms ≡ entry_data x
     at None e h = cc
-    at (Some s) e h = ap object (link_is ms s e) ∙ ap entry_data (some_same (Link s) x h)
+    at (Some s) e h = ap object (link_is ms s e) ∙ ap entry_data (same_Some (Link s) x h)

@@ -1,11 +1,10 @@
 -- The members that are written.
-use Rattle.std.proofs.Common.{◌≡◌, ◌≢◌, ◌⊎◌, inl, inr, ℕ, Bool, true, false, cond, ◌&&◌, List, [], ◌∷◌, Option, Some, is_some, refl, sym, ap, subst, ◌∙◌}
+use Rattle.std.proofs.Common.{◌≡◌, ◌≢◌, ◌⊎◌, inl, inr, ℕ, Bool, true, false, cond, ◌&&◌, List, [], ◌∷◌, Some, is_some, refl, sym, ap, subst, ◌∙◌}
 use Rattle.std.specs.Prelude.{T}
 use Rattle.std.specs.declared.cmp.Ordering.{Ordering}
-use Rattle.std.specs.declared.cmp.Ordering.TheVariants.{Less, Equal, Greater}
+use Rattle.std.specs.declared.cmp.Ordering.TheVariants.{Less, Equal}
 use Rattle.std.specs.Ordering.{is_lt}
-use Rattle.std.specs.Cmp.{IsTotalOrder, nat_cmp_total, tied_itself}
-use Rattle.std.specs.Cmp.Lexicographic.{lists_total}
+use Rattle.std.specs.Cmp.{tied_itself}
 use Rattle.std.specs.List.{AllByRecursion}
 use Rattle.std.specs.FinMap as map
 use Rattle.std.specs.FinMap.{find, is_sorted, get-entries, entries_sorted}
@@ -15,10 +14,9 @@ use Rattle.fs_semantics.specs.FileTree.{Path, Entry, Tree, IsTree, IsSegment, pa
 use Rattle.fs_lang.specs.PathText.{path_text}
 use Rattle.tree_text.specs.TreeText.{entry_data, HasMember, AreMembers, members_with, members_of}
 use Rattle.tree_text.proofs.MemberLaws.{has_put, has_kept, has_only}
-
--- paths are ordered, each with each
-path_total : IsTotalOrder path_cmp
-path_total = lists_total (lists_total nat_cmp_total)
+use Rattle.std.proofs.lemmas.Option.{same_Some}
+use Rattle.fs_lang.proofs.EntryOrder.{is_less}
+use Rattle.fs_semantics.proofs.Trees.{path_total}
 
 -- paths that are written alike are the same, as the law of paths says
 abbrev pub SameText : Type 0
@@ -35,24 +33,14 @@ abbrev pub Stands : Path → Entry → List (Path × Entry) → Type 0
 Stands p x [] = ⊥
 Stands p x (e ∷ es) = ((p ≡ e.0) × (x ≡ e.1)) ⊎ Stands p x es
 
--- what is there twice is one
-some_same : {X : Type 0} (x y : X) → ◌≡◌ {A = Option X} (Some x) (Some y) → x ≡ y
-some_same x y e = cc
-
 -- an entry that is found stands there
 found_stands : SamePath → (p : Path) (x : Entry) (es : List (Path × Entry)) → find path_cmp p es ≡ Some x → Stands p x es
 found_stands same p x [] h = cc
 found_stands same p x (e ∷ es) h = at (path_eq p e.0) refl h (found_stands same p x es)
   where
     at : (b : Bool) → path_eq p e.0 ≡ b → cond b (Some e.1) (find path_cmp p es) ≡ Some x → (find path_cmp p es ≡ Some x → Stands p x es) → Stands p x (e ∷ es)
-    at true s h later = inl ((same p e.0).0 s, sym (some_same e.1 x h))
+    at true s h later = inl ((same p e.0).0 s, sym (same_Some e.1 x h))
     at false s h later = inr (later h)
-
--- what is told to be less is less
-is_less : (o : Ordering) → T (is_lt o) → o ≡ Less
-is_less Less h = refl
-is_less Equal h = absurd h
-is_less Greater h = absurd h
 
 -- of a conjunction that is true both sides are true
 both : (a b : Bool) → T (a && b) → T a × T b

@@ -4,17 +4,10 @@ use Rattle.std.specs.FinMap as map
 use Rattle.serde_json.specs.Data.{Data, null, boolean, number, string, array, object, Members}
 use Rattle.serde_json.specs.Find.{get_member, as_str}
 use Rattle.serde_json.specs.Events.{members_len}
-use Rattle.rh_base.specs.declared.misread.Misread.{Misread}
-use Rattle.rh_base.specs.declared.misread.Misread.TheVariants as misread
 use Rattle.fs_semantics.specs.FileTree.{Path, Entry, Folder, File, Link, Tree, parent}
 use Rattle.fs_semantics.specs.Entries.{IsFreeAt, IsFolderAt}
 use Rattle.fs_lang.specs.PathText.{IsPathText, path_text}
 use Rattle.tree_text.specs.TreeText.{entry_data}
-
--- a fact where the fault is that the text has another form
-abbrev pub IfForm : Misread → Type 0 → Type 0
-IfForm misread.Form P = P
-IfForm (misread.Memory m) P = Unit {0}
 
 -- the target in an object of one member, which is named `link`
 abbrev pub target_in : Members → Option (List ℕ)

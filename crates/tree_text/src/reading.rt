@@ -10,7 +10,8 @@ ghost use Rattle.fs_lang.specs.PathText.{IsPathText};
 ghost use Rattle.fs_semantics.specs.Entries.{IsFreeAt, IsFolderAt};
 ghost use Rattle.fs_lang.specs.Meaning.{entry_of};
 ghost use Rattle.tree_text.specs.TreeText.{AreMembers, IsTreeText, IsWithinLimits};
-ghost use Rattle.tree_text.specs.Reading.{IfForm, target_in, entry_in, IsKey, Fits, IsGrown};
+ghost use Rattle.json_parts.specs.Forms.{IfForm};
+ghost use Rattle.tree_text.specs.Reading.{target_in, entry_in, IsKey, Fits, IsGrown};
 
 use crate::laws::tree_texts;
 use fs_lang::{Entry, Path, PathFault, Tree, path_texts};

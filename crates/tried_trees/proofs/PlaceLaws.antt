@@ -10,6 +10,8 @@ use Rattle.orders.specs.Relation.{Relation, comes, Comes, IsStrictOrder}
 use Rattle.tried_trees.specs.declared.placing.Place.{Place}
 use Rattle.tried_trees.specs.declared.placing.Place.TheVariants.{Early, Late}
 use Rattle.tried_trees.specs.Placing.{near, aside, those, OnlyNeeded, IsPlaced}
+use Rattle.std.proofs.lemmas.Bool.{not-true}
+use Rattle.fs_semantics.proofs.Puts.{and_right}
 
 -- what is true exactly where one node comes before another is what the order tells of them
 pub told_by : (order : Relation) (a b : ℕ) (r : Bool) → IsTrue r ↔ Comes order a b → r ≡ comes order a b
@@ -108,16 +110,6 @@ or_false true y e = absurd (true≢false e)
 or_false false true e = absurd (true≢false e)
 or_false false false e = (λ h. true≢false (sym h), λ h. true≢false (sym h))
 
--- where both of two hold, the second does
-and_right : (x y : Bool) → (x && y) ≡ true → y ≡ true
-and_right true y e = e
-and_right false y e = absurd (true≢false (sym e))
-
--- what is denied is false
-not_true : (x : Bool) → not x ≡ true → x ≡ false
-not_true true e = absurd (true≢false (sym e))
-not_true false e = refl
-
 -- where at most one of three holds, just one of these and of their denial does
 one_of : (x y m : Bool) → (x ≡ true → y ≡ false) → (x ≡ true → m ≡ false) → (y ≡ true → m ≡ false)
     → cond m 1 0 + (cond x 1 0 + (cond y 1 0 + cond (not x && not y && not m) 1 0)) ≡ 1
@@ -162,11 +154,11 @@ module _ (order : Relation) (strict : IsStrictOrder order) (a b : ℕ) (free : I
 
   -- what is aside of an early place comes before neither of the two
   far_early : (k : ℕ) → aside Early order a b k ≡ true → (Comes order k a → ⊥) × (Comes order k b → ⊥)
-  far_early k e = or_false (comes order k a) (comes order k b) (not_true (near Early order a b k) (and_right (not (a == k) && not (b == k)) (not (near Early order a b k)) e))
+  far_early k e = or_false (comes order k a) (comes order k b) (not-true (near Early order a b k) (and_right (not (a == k) && not (b == k)) (not (near Early order a b k)) e))
 
   -- what is aside of a late place comes after neither of the two
   far_late : (k : ℕ) → aside Late order a b k ≡ true → (Comes order a k → ⊥) × (Comes order b k → ⊥)
-  far_late k e = or_false (comes order a k) (comes order b k) (not_true (near Late order a b k) (and_right (not (a == k) && not (b == k)) (not (near Late order a b k)) e))
+  far_late k e = or_false (comes order a k) (comes order b k) (not-true (near Late order a b k) (and_right (not (a == k) && not (b == k)) (not (near Late order a b k)) e))
 
   -- each number is just one of those that come before, of the two, and of those aside
   one_early : (k : ℕ) → cond (near Early order a b k) 1 0 + (cond (a == k) 1 0 + (cond (b == k) 1 0 + cond (aside Early order a b k) 1 0)) ≡ 1

@@ -2,7 +2,7 @@
 use Rattle.std.proofs.Common.{◌≡◌, ◌⊎◌, inl, inr, ℕ, zero, suc, ◌+◌, ◌-◌, ◌<◌, ◌≤◌, Bool, true, false, true≢false, ◌||◌, if◌then◌else◌, List, [], ◌∷◌, ◌++◌, length, map, get_or, drop, slice_get, Some, refl, sym, ap, ◌∙◌, subst, arith}
 use Rattle.std.specs.Prelude.{◌==◌, nat_le}
 use Rattle.std.specs.List.{list_any}
-use Rattle.std.proofs.lemmas.Bool.{cases_lt, eq-eqb, eqb-true, le-leb, lt-leb}
+use Rattle.std.proofs.lemmas.Bool.{cases_lt, eq-eqb, eqb-true, le-leb, lt-leb, or_cases}
 use Rattle.std.proofs.lemmas.List.{length_push, append_assoc, drop_more}
 use Rattle.std.proofs.lemmas.Option.{slice_get_within}
 use Rattle.cnf.specs.declared.lit.Lit.{Lit}
@@ -13,7 +13,8 @@ use Rattle.cnf.specs.Formulas.{Formula}
 use Rattle.cnf.specs.Proofs.{numbered, Leads, IsRight, AreRight, EndsEmpty, IsAccepted}
 use Rattle.trimmed_proofs.specs.Trimmed.{names, EachIsUsed, AreOf, step_clauses, IsTrimmedOf}
 use Rattle.trimmed_proofs.specs.Marks.{is_marked, NameEarlier, IsNamedBehind, AreMarkedFrom, numbers_from, new_number, renamed_link, renamed_step, kept}
-use Rattle.trimmed_proofs.proofs.MarkLaws.{or_cases, or_true}
+use Rattle.trimmed_proofs.proofs.MarkLaws.{or_true}
+use Rattle.rh_base.proofs.Lists.{get_last}
 
 -- ---- places in lists
 -- what stands in a list stands there with more behind it
@@ -21,11 +22,6 @@ at_front : {X : Type 0} (xs ys : List X) (k : ℕ) (x : X) → slice_get xs k �
 at_front [] ys k x h = absurd cc
 at_front (y ∷ xs) ys zero x h = h
 at_front (y ∷ xs) ys (suc k) x h = at_front xs ys k x h
-
--- the last one stands behind the others
-at_end : {X : Type 0} (xs : List X) (x : X) → slice_get (xs ++ x ∷ []) (length xs) ≡ Some x
-at_end [] x = refl
-at_end (y ∷ xs) x = at_end xs x
 
 -- what stands in a list with one more stood there, or is that one
 front_or_end : {X : Type 0} (xs : List X) (y : X) (k : ℕ) (x : X) → slice_get (xs ++ y ∷ []) k ≡ Some x → (slice_get xs k ≡ Some x) ⊎ ((k ≡ length xs) × (y ≡ x))
@@ -178,7 +174,7 @@ module _ (ren : ℕ → ℕ) (left : ℕ → Bool) where
     | inr last ↦
         ap (λ n. numbered (ds ++ c ∷ []) (ren n)) (let a : suc k ≡ length cs + 1 = omega (arith, last.0) in a)
         ∙ ap (numbered (ds ++ c ∷ [])) (new ∙ (let a : length ds + 1 ≡ suc (length ds) = omega arith in a))
-        ∙ at_end ds c
+        ∙ get_last ds c
         ∙ ap Some last.1
   ]
     where

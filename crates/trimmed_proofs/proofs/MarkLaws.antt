@@ -2,15 +2,10 @@
 use Rattle.std.proofs.Common.{◌≡◌, ◌⊎◌, inl, inr, ℕ, zero, suc, ◌+◌, ◌-◌, ◌<◌, Bool, true, false, true≢false, ◌||◌, List, [], ◌∷◌, length, slice_get, Some, refl, sym, ap, ◌∙◌, arith}
 use Rattle.std.specs.Prelude.{◌==◌}
 use Rattle.std.specs.List.{list_any}
-use Rattle.std.proofs.lemmas.Bool.{cases_eq}
+use Rattle.std.proofs.lemmas.Bool.{cases_eq, or_cases}
 use Rattle.cnf.specs.declared.log.Step.{Step}
 use Rattle.trimmed_proofs.specs.Trimmed.{names}
 use Rattle.trimmed_proofs.specs.Marks.{is_marked, MarksMore, NameEarlier, AreMarkedFrom}
-
--- one test or the other
-pub or_cases : (a b : Bool) → (a || b) ≡ true → (a ≡ true) ⊎ (b ≡ true)
-or_cases true b h = inl refl
-or_cases false b h = inr h
 
 -- a disjunction with a true side is true
 pub or_true : (a b : Bool) → b ≡ true → true ≡ (a || b)

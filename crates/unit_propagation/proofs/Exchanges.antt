@@ -1,10 +1,10 @@
 -- Laws of a clause of which two literals are exchanged, and of a watch that moves.
-use Rattle.std.proofs.Common.{◌≡◌, ◌⊎◌, inl, inr, ℕ, suc, ◌<◌, ◌≤◌, Bool, true, false, true≢false, List, [], ◌∷◌, ◌++◌, length, take, get_or, None, refl, sym, ap, ◌∙◌, subst, arith}
+use Rattle.std.proofs.Common.{◌≡◌, ◌⊎◌, inl, inr, ℕ, suc, ◌<◌, ◌≤◌, true, false, true≢false, List, [], ◌∷◌, ◌++◌, length, take, get_or, None, refl, sym, ap, ◌∙◌, subst, arith}
 use Rattle.std.specs.Prelude.{◌==◌}
 use Rattle.std.specs.List.{AllByRecursion}
 use Rattle.std.proofs.Math.ListN.{set, length-set}
 use Rattle.std.proofs.lemmas.List.{get_or-set_other, get_or-set_same}
-use Rattle.std.proofs.lemmas.Bool.{eqb-true, cases_eq, or_cases}
+use Rattle.std.proofs.lemmas.Bool.{eqb-true, cases_eq, or_cases, false_from_ne_true}
 use Rattle.unit_propagation.specs.Literals.{opposite, has}
 use Rattle.unit_propagation.specs.Stored.{exchanged}
 use Rattle.unit_propagation.specs.Trails.{Way}
@@ -186,11 +186,6 @@ module _ (f : List (List ℕ)) (n j k : ℕ) (there : n < length f) (in_j : j < 
     short = λ l. meets_now m t (q.short (omega (arith, length_now m)));
   }
 
--- a truth value that isn't true is false
-pub not_true : (b : Bool) → (b ≡ true → ⊥) → b ≡ false
-not_true true h = absurd (h refl)
-not_true false h = refl
-
 -- ---- a watch that moves
 module _ (f : List (List ℕ)) (t : Way) (w : List (List Watcher)) (n j k : ℕ) (there : n < length f) (in_j : j < length (clause f n)) (in_k : k < length (clause f n)) (far : 2 ≤ k) (near : j < 2) where
   -- the clauses once the watch moved: the watched literal is exchanged with the one at place k
@@ -221,7 +216,7 @@ module _ (f : List (List ℕ)) (t : Way) (w : List (List Watcher)) (n j k : ℕ)
 
     -- a literal that isn't false wasn't false on any front of the trail
     open_before : (p : ℕ) → has t.literals (opposite x) ≡ false → has (take p t.literals) (opposite x) ≡ false
-    open_before p o = not_true (has (take p t.literals) (opposite x)) (λ h. true≢false (sym (has_first t.literals p (opposite x) h) ∙ o))
+    open_before p o = false_from_ne_true (has (take p t.literals) (opposite x)) (λ h. true≢false (sym (has_first t.literals p (opposite x) h) ∙ o))
 
     -- the watcher that was put there names the clause
     entry_u : 2 ≤ length (clause f n) → IsEntry f2 u
@@ -291,7 +286,7 @@ module _ (f : List (List ℕ)) (t : Way) (w : List (List Watcher)) (n j k : ℕ)
             ];
             held = h.held;
             quiet = λ m a. quiet_now f n j k there in_j in_k m before t.literals far near
-                (not_true (has before (opposite x)) (λ q. true≢false (sym (h.held (opposite x) q) ∙ o)))
+                (false_from_ne_true (has before (opposite x)) (λ q. true≢false (sym (h.held (opposite x) q) ∙ o)))
                 (h.quiet m (omega (arith, l)));
             seen = λ q m s a b d e. elim (watched_now f n j k there in_j in_k m s b far near) [
               | inl z ↦ absurd (not_literal (sym z.2 ∙ e))

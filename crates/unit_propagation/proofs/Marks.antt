@@ -1,12 +1,12 @@
 -- Laws of the marks of literals that hold.
-use Rattle.std.proofs.Common.{◌≡◌, ◌⊎◌, inl, inr, ℕ, zero, suc, ◌+◌, ◌-◌, ◌*◌, ◌/◌, ◌%◌, ◌<◌, ◌≤◌, ◌^◌, Bool, true, false, true≢false, ◌||◌, if◌then◌else◌, List, [], ◌∷◌, ◌++◌, length, get_or, refl, sym, ap, ◌∙◌, subst, arith}
+use Rattle.std.proofs.Common.{◌≡◌, ◌⊎◌, inl, inr, ℕ, zero, suc, ◌+◌, ◌-◌, ◌*◌, ◌/◌, ◌%◌, ◌<◌, ◌≤◌, ◌^◌, Bool, true, false, true≢false, ◌||◌, if◌then◌else◌, List, [], ◌∷◌, ◌++◌, length, take, map, Option, None, Some, get_or, refl, sym, ap, ◌∙◌, subst, arith}
 use Rattle.std.specs.Prelude.{◌==◌}
 use Rattle.std.proofs.Math.ListN.{set, length-set}
 use Rattle.std.proofs.Common.{get_or-set_other, get_or-set_same, length-append}
 use Rattle.std.proofs.lemmas.Bool.{eqb-true, eq-eqb, ne_eqb, cases_eq, or_cases}
 use Rattle.std.proofs.lemmas.List.Folds.{list_any-append, list_any_at}
 use Rattle.unit_propagation.specs.Literals.{opposite, has}
-use Rattle.unit_propagation.specs.Trails.{IsKept}
+use Rattle.unit_propagation.specs.Trails.{IsKept, reason_of}
 use Rattle.unit_propagation.specs.Trails.{IsApart}
 
 -- ---- literals and their opposites
@@ -188,3 +188,36 @@ place_is holds places literals reasons starts done w k h =
     let e : get_or places (w / 2) 0 ≡ s.place = ap (λ i. get_or places i 0) (sym (half_opposite w)) ∙ ap (λ x. get_or places (x / 2) 0) (sym s.is) ∙ k.placed s.place s.within in
     let l = s.within in
     (omega arith, ap (λ i. get_or literals i 0) e ∙ s.is)
+
+-- ---- reasons
+-- two clauses are one where they are one reason
+pub some_same : (m n : ℕ) → Some m ≡ Some n → m ≡ n
+some_same m n e = ap value e
+  where
+    value : Option ℕ → ℕ
+    value None = m
+    value (Some k) = k
+
+-- a clause isn't no reason
+pub some_none : (n : ℕ) → Some n ≡ None → ⊥
+some_none n e = absurd cc
+
+-- the reasons in front stay when there is one more
+pub reason_front : (reasons : List (Option ℕ)) (r : Option ℕ) (p : ℕ) → p < length reasons → get_or (reasons ++ r ∷ []) p None ≡ get_or reasons p None
+reason_front [] r p l = absurd (omega arith)
+reason_front (y ∷ reasons) r zero l = refl
+reason_front (y ∷ reasons) r (suc p) l = reason_front reasons r p (omega arith)
+
+-- the last reason, where it is a clause
+pub reason_end : (reasons : List (Option ℕ)) (n p : ℕ) → p ≡ length reasons → get_or (reasons ++ Some n ∷ []) p None ≡ Some n
+reason_end reasons n p e = ap (λ i. get_or (reasons ++ Some n ∷ []) i None) e ∙ last reasons
+  where
+    last : (rs : List (Option ℕ)) → get_or (rs ++ Some n ∷ []) (length rs) None ≡ Some n
+    last [] = refl
+    last (r ∷ rs) = last rs
+
+-- the numbers in front are kept for the reasons in front
+pub reasons_back : (numbers : List ℕ) (b : ℕ) → map reason_of (take b numbers) ≡ take b (map reason_of numbers)
+reasons_back numbers zero = refl
+reasons_back [] (suc b) = refl
+reasons_back (m ∷ numbers) (suc b) = ap (λ rs. reason_of m ∷ rs) (reasons_back numbers b)

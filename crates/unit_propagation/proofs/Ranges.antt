@@ -3,9 +3,9 @@ use Rattle.std.proofs.Common.{◌≡◌, ℕ, zero, suc, ◌+◌, ◌-◌, ◌<�
 use Rattle.std.specs.List.{slice_range}
 use Rattle.std.proofs.Math.ListN.{set, length-set}
 use Rattle.std.proofs.Math.Seq.{take-set-lt}
-use Rattle.std.proofs.lemmas.List.{take-set-le, drop-set-lt, drop-set-add, length-drop, get_or-take, get_or-drop, length-append, take-append-le, drop-append-le, take_all, drop_at}
+use Rattle.std.proofs.lemmas.List.{take-set-le, drop-set-lt, drop-set-add, get_or-take, get_or-drop, length-append}
 use Rattle.cnf.specs.Store.{Rise}
-use Rattle.cnf.proofs.StoreLaws.{rise_push, length-range}
+use Rattle.cnf.proofs.StoreLaws.{rise_push, length-range, range_append, range_last, rise_within}
 use Rattle.unit_propagation.specs.Stored.{ranges, clauses_of, IsStored, exchanged}
 
 -- there are as many clauses as ends
@@ -17,11 +17,6 @@ length_ranges literals s (e ∷ ends) = ap suc (length_ranges literals e ends)
 pub count : (literals starts : List ℕ) → IsStored literals starts → (length (clauses_of literals starts) + 1 ≡ length starts)
 count literals [] h = absurd h
 count literals (s ∷ ends) h = let e = length_ranges literals s ends in omega arith
-
--- places that rise to an end begin no later than there
-rise_within : (s : ℕ) (ends : List ℕ) (n : ℕ) → Rise s ends n → s ≤ n
-rise_within s [] n h = omega arith
-rise_within s (e ∷ ends) n h = let a = h.0 in let b = rise_within e ends n h.1 in omega arith
 
 -- of places that rise each is no later than the next, and none is past the end
 rise_at : (s : ℕ) (ends : List ℕ) (m n : ℕ) → Rise s ends m → n < length ends → (get_or (s ∷ ends) n 0 ≤ get_or ends n 0) × (get_or ends n 0 ≤ m)
@@ -174,16 +169,6 @@ exchange_is literals new starts n j k a h l p q e w =
     ∙ written_twice literals starts n j k x y h l p q
     ∙ ap (λ (z : ℕ). set f n (set (set c j z) k y)) (literal_at literals starts n k h l q)
     ∙ ap (λ (z : ℕ). set f n (set (set c j (get_or c k 0)) k z)) (literal_at literals starts n j h l p)
-
--- one more clause
-range_append : (literals more : List ℕ) (a b : ℕ) → a ≤ b → b ≤ length literals → slice_range (literals ++ more) a b ≡ slice_range literals a b
-range_append literals more a b h k =
-    ap (take (b - a)) (drop-append-le a literals more (omega arith)) ∙ take-append-le (b - a) (drop a literals) more (omega (arith, length-drop a literals))
-
--- what was put behind the array is what stands there up to the end
-range_last : (literals more : List ℕ) (n : ℕ) → n ≡ length (literals ++ more) → slice_range (literals ++ more) (length literals) n ≡ more
-range_last literals more n e =
-    ap (take (n - length literals)) (drop_at literals more (length literals) refl) ∙ take_all (n - length literals) more (omega (arith, length-append literals more))
 
 -- literals that are put last, with their end, are one clause more
 pub pushed : (literals more starts : List ℕ) (n : ℕ) → IsStored literals starts → n ≡ length (literals ++ more) → clauses_of (literals ++ more) (starts ++ n ∷ []) ≡ clauses_of literals starts ++ more ∷ []

@@ -10,7 +10,7 @@ use Rattle.unit_propagation.specs.Literals.{opposite, has}
 use Rattle.unit_propagation.specs.Trails.{Way}
 use Rattle.unit_propagation.specs.declared.watches.Watcher.{Watcher}
 use Rattle.unit_propagation.specs.Watching.{clause, names, Meets, IsQuiet, IsEntry, Gives, IsFalse, IsSound, IsListed, IsReady, IsScanning, Scanning, IsStopped, TwoFree, AtRest, with_literal}
-use Rattle.unit_propagation.proofs.Marks.{opposite_twice, opposite_differs, has_last, has_other, has_kept, has_at, get_front, get_end}
+use Rattle.unit_propagation.proofs.Marks.{opposite_twice, opposite_differs, has_last, has_other, has_kept, has_at, get_front, get_end, reason_front, reason_end, some_same, some_none}
 
 -- ---- names in lists
 -- a list with one watcher more names what it named, and the clause of that one
@@ -138,9 +138,9 @@ module _ (f : List (List ℕ)) (t : Way) (w : List (List Watcher)) (x reason : �
     ]
   ]
 
-  -- the invariants hold with one literal more that some clause gave
-  pub sound_more : IsSound f t w → (reason ≡ 0 → ⊥) → x < 2 * t.vars → has t.literals x ≡ false → has t.literals (opposite x) ≡ false → ((n : ℕ) → reason ≡ n + 1 → Gives f t.literals x n) → IsSound f (with_literal t x reason) w
-  sound_more h by lt a b g =
+  -- the invariants hold with one literal more that a clause gave
+  pub sound_more : IsSound f t w → x < 2 * t.vars → has t.literals x ≡ false → has t.literals (opposite x) ≡ false → Gives f t.literals x reason → IsSound f (with_literal t x reason) w
+  sound_more h lt a b given =
       let lr = h.long_reasons in
       let lw = length-append t.literals (x ∷ []) in
       record {
@@ -150,25 +150,24 @@ module _ (f : List (List ℕ)) (t : Way) (w : List (List Watcher)) (x reason : �
         once = h.once;
         below = λ y p. elim (cases_eq y x) [ inl e ↦ omega arith | inr n ↦ h.below y (sym (has_other t.literals x y n) ∙ p) ];
         consistent = consistent_more h a b;
-        long_reasons = length-append t.reasons (reason ∷ []) ∙ (let e : length t.reasons + 1 ≡ length (t.literals ++ x ∷ []) = omega (arith, lw) in e);
+        long_reasons = length-append t.reasons (Some reason ∷ []) ∙ (let e : length t.reasons + 1 ≡ length (t.literals ++ x ∷ []) = omega (arith, lw) in e);
         reasons = λ p n l e. elim (cases_eq p (length t.literals)) [
           | inl s ↦
-              let q : reason ≡ n + 1 = sym (get_end t.reasons reason p (s ∙ sym lr)) ∙ e in
-              let given = g n q in
+              let q : Some reason ≡ Some n = sym (reason_end t.reasons reason p (s ∙ sym lr)) ∙ e in
               subst (λ (ts : List ℕ). Gives f ts (get_or (t.literals ++ x ∷ []) p 0) n)
               (sym (ap (λ k. take k (t.literals ++ x ∷ [])) s ∙ take_front t.literals x (length t.literals) (omega arith) ∙ take_whole t.literals))
-              (subst (λ y. Gives f t.literals y n) (sym (get_end t.literals x p s)) given)
+              (subst (λ y. Gives f t.literals y n) (sym (get_end t.literals x p s)) (subst (Gives f t.literals x) (some_same reason n q) given))
           | inr s ↦
               let below : p < length t.literals = omega (arith, lw) in
-              let old = h.reasons p n below (sym (get_front t.reasons reason p (omega (arith, lr, below))) ∙ e) in
+              let old = h.reasons p n below (sym (reason_front t.reasons (Some reason) p (omega (arith, lr, below))) ∙ e) in
               subst (λ (ts : List ℕ). Gives f ts (get_or (t.literals ++ x ∷ []) p 0) n) (sym (take_front t.literals x p (omega arith)))
               (subst (λ y. Gives f (take p t.literals) y n) (sym (get_front t.literals x p below)) old)
         ];
         driven = λ p l n e. elim (cases_eq p (length t.literals)) [
-          | inl s ↦ by (sym (get_end t.reasons reason p (s ∙ sym lr)) ∙ e)
+          | inl s ↦ some_none reason (sym (reason_end t.reasons reason p (s ∙ sym lr)) ∙ e)
           | inr s ↦
               let below : p < length t.literals = omega (arith, lw) in
-              h.driven p below n (sym (get_front t.reasons reason p (omega (arith, lr, below))) ∙ e)
+              h.driven p below n (sym (reason_front t.reasons (Some reason) p (omega (arith, lr, below))) ∙ e)
         ];
         starts = λ k l. let old = h.starts k l in omega (arith, lw);
         settled = λ k n l m. subst (λ (ts : List ℕ). IsQuiet ts ts (clause f n)) (sym (take_front t.literals x (get_or t.starts k 0) (h.starts k l))) (h.settled k n l m);
@@ -182,11 +181,11 @@ module _ (f : List (List ℕ)) (t : Way) (w : List (List Watcher)) (x reason : �
 module _ (before : List ℕ) (f : List (List ℕ)) (t : Way) (w : List (List Watcher)) (front rest : List Watcher) (literal : ℕ) (v : Watcher) where
   -- the last literal of a clause that can hold is set, and the watcher stays with it as its blocker
   pub forced : (b : ℕ) → IsScanning before f t w front (v ∷ rest) literal None → has t.literals b ≡ false → has t.literals (opposite b) ≡ false → Gives f t.literals b v.clause
-      → IsScanning before f (with_literal t b (v.clause + 1)) w (front ++ (record { clause = v.clause; blocker = b }) ∷ []) rest literal None
+      → IsScanning before f (with_literal t b v.clause) w (front ++ (record { clause = v.clause; blocker = b }) ∷ []) rest literal None
   forced b h a o g =
-      met before f (with_literal t b (v.clause + 1)) w front rest literal v b
+      met before f (with_literal t b v.clause) w front rest literal v b
       (record {
-        sound = sound_more f t w b (v.clause + 1) h.sound (λ e. omega arith) (h.sound.within v.clause b g.there g.stands) a o (λ n e. subst (Gives f t.literals b) (let q : v.clause ≡ n = omega arith in q) g);
+        sound = sound_more f t w b v.clause h.sound (h.sound.within v.clause b g.there g.stands) a o g;
         fronts = h.fronts;
         rests = h.rests;
         listed = h.listed;

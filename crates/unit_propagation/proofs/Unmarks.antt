@@ -7,11 +7,6 @@ use Rattle.unit_propagation.specs.Literals.{has}
 use Rattle.unit_propagation.specs.Trails.{IsKept}
 use Rattle.unit_propagation.proofs.Marks.{standing, apart}
 
--- a conjunction with false is false
-and_false : (a : Bool) → (a && false) ≡ false
-and_false true = refl
-and_false false = refl
-
 module _ (holds new : List Bool) (places literals reasons starts : List ℕ) (done level : ℕ) (k : IsKept holds places literals reasons starts done) (in_level : level < length starts)
     (long : length new ≡ length holds) (marks : (w : ℕ) → get_or new w false ≡ (get_or holds w false && not (has (drop (get_or starts level 0) literals) w))) where
   -- where the level begins

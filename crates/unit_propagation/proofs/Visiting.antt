@@ -1,5 +1,5 @@
 -- What each way of visiting a watcher gives.
-use Rattle.std.proofs.Common.{◌≡◌, ◌⊎◌, inl, inr, ℕ, ◌+◌, ◌-◌, ◌<◌, ◌≤◌, true, false, List, [], ◌∷◌, ◌++◌, length, get_or, Option, Some, None, refl, sym, ap, ◌∙◌, subst, arith}
+use Rattle.std.proofs.Common.{◌≡◌, ◌⊎◌, inl, inr, ℕ, ◌-◌, ◌<◌, ◌≤◌, true, false, List, [], ◌∷◌, ◌++◌, length, get_or, Option, Some, None, refl, sym, ap, ◌∙◌, subst, arith}
 use Rattle.std.proofs.Math.ListN.{set}
 use Rattle.std.proofs.lemmas.Bool.{cases_eq}
 use Rattle.unit_propagation.specs.Literals.{opposite, has}
@@ -49,11 +49,11 @@ module _ (f : List (List ℕ)) (t : Way) (w : List (List Watcher)) (front rest :
     -- the scan goes on behind a clause whose other watched literal was set, or was false
     pub after_forced : (b : ℕ) (s : Way) (out : Visited) → IsEntry f v → b ≡ get_or (clause f v.clause) (1 - side) 0 → has (clause f v.clause) b ≡ true → has t.literals b ≡ false
         → ((k : ℕ) → 2 ≤ k → k < length (clause f v.clause) → has t.literals (opposite (get_or (clause f v.clause) k 0)) ≡ true)
-        → Forces t s b (v.clause + 1) out → Scanning f t w front (v ∷ rest) literal None → IsAfter f s w front rest literal v out
+        → Forces t s b v.clause out → Scanning f t w front (v ∷ rest) literal None → IsAfter f s w front rest literal v out
     after_forced b s visited.Gone entry is stands free all x h = absurd x
     after_forced b s (visited.Kept d) entry is stands free all x (before, h) =
         subst (λ y. Scanning f y w (front ++ (record { clause = v.clause; blocker = d }) ∷ []) rest literal None) (sym x.2)
-        (subst (λ y. Scanning f (with_literal t b (v.clause + 1)) w (front ++ (record { clause = v.clause; blocker = y }) ∷ []) rest literal None) (sym x.0) (
+        (subst (λ y. Scanning f (with_literal t b v.clause) w (front ++ (record { clause = v.clause; blocker = y }) ∷ []) rest literal None) (sym x.0) (
           before,
           forced before f t w front rest literal v b h free x.1 (record {
             there = entry.there;

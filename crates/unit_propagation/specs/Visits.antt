@@ -7,12 +7,12 @@ use Rattle.unit_propagation.specs.declared.propagate.Visited.{Visited}
 use Rattle.unit_propagation.specs.declared.propagate.Visited.TheVariants as visited
 use Rattle.unit_propagation.specs.Watching.{with_literal, Scanning, IsReady, IsStopped}
 
--- the literal is false, or it is set
+-- the literal is false, or it is set, given by a clause
 abbrev pub Forces : Way → Way → ℕ → ℕ → Visited → Type 0
-Forces t s literal reason visited.Gone = ⊥
-Forces t s literal reason (visited.Kept b) = (b ≡ literal) × (has t.literals (opposite literal) ≡ false)
-    × (s ≡ with_literal t literal reason)
-Forces t s literal reason visited.False = (has t.literals (opposite literal) ≡ true) × (s ≡ t)
+Forces t s literal n visited.Gone = ⊥
+Forces t s literal n (visited.Kept b) = (b ≡ literal) × (has t.literals (opposite literal) ≡ false)
+    × (s ≡ with_literal t literal n)
+Forces t s literal n visited.False = (has t.literals (opposite literal) ≡ true) × (s ≡ t)
 
 -- the scan goes on behind the watcher
 abbrev pub IsAfter : List (List ℕ) → Way → List (List Watcher) → List Watcher → List Watcher → ℕ → Watcher → Visited → Type 0

@@ -1,8 +1,8 @@
 -- Two watched literals: clauses watch their first two literals; and what holds while the trail is propagated.
-use Rattle.std.specs.Prelude.{◌≡◌, ◌⊎◌, ℕ, ◌+◌, ◌*◌, ◌^◌, ◌<◌, ◌≤◌, ◌==◌, Bool, true, false, List, [], ◌∷◌, ◌++◌, length, take, slice_index, slice_index_or, Option, Some, None}
+use Rattle.std.specs.Prelude.{◌≡◌, ◌⊎◌, ℕ, ◌*◌, ◌^◌, ◌<◌, ◌≤◌, ◌==◌, Bool, true, false, List, [], ◌∷◌, ◌++◌, length, take, slice_index, slice_index_or, Option, Some, None}
 use Rattle.std.specs.List.{AllByRecursion, list_any}
 use Rattle.unit_propagation.specs.Literals.{opposite, has}
-use Rattle.unit_propagation.specs.Trails.{Way}
+use Rattle.unit_propagation.specs.Trails.{Way, reason_at}
 use Rattle.unit_propagation.specs.declared.watches.Watcher.{Watcher}
 
 -- the clause with an index
@@ -56,10 +56,10 @@ pub record IsSound (f : List (List ℕ)) (t : Way) (w : List (List Watcher)) : T
   pub below : (x : ℕ) → has t.literals x ≡ true → x < 2 * t.vars
   pub consistent : (x : ℕ) → has t.literals x ≡ true → has t.literals (opposite x) ≡ true → ⊥
   pub long_reasons : length t.reasons ≡ length t.literals
-  pub reasons : (p n : ℕ) → p < length t.literals → slice_index t.reasons p ≡ n + 1
+  pub reasons : (p n : ℕ) → p < length t.literals → reason_at t p ≡ Some n
       → Gives f (take p t.literals) (slice_index t.literals p) n
   pub driven : (p : ℕ) → p < length t.literals → ((k : ℕ) → k < length t.starts → slice_index t.starts k ≡ p → ⊥)
-      → slice_index t.reasons p ≡ 0 → ⊥
+      → reason_at t p ≡ None → ⊥
   pub starts : (k : ℕ) → k < length t.starts → slice_index t.starts k ≤ length t.literals
   pub settled : (k n : ℕ) → k < length t.starts → n < length f
       → IsQuiet (take (slice_index t.starts k) t.literals) (take (slice_index t.starts k) t.literals) (clause f n)
@@ -96,12 +96,12 @@ pub record IsScanning (before : List ℕ) (f : List (List ℕ)) (t : Way) (w : L
   pub taken : slice_index_or w literal [] ≡ []
   pub found : (n : ℕ) → conflict ≡ Some n → IsFalse f t.literals n
 
--- the trail with one more literal
+-- the trail with one more literal, which a clause gave
 abbrev pub with_literal : Way → ℕ → ℕ → Way
-with_literal t x reason = record {
+with_literal t x n = record {
   vars = t.vars;
   literals = t.literals ++ x ∷ [];
-  reasons = t.reasons ++ reason ∷ [];
+  reasons = t.reasons ++ Some n ∷ [];
   starts = t.starts;
   done = t.done;
 }

@@ -60,7 +60,7 @@ fn force(trail: &mut Trail, clause: u32, literal: u32) -> Result<Visited, NoMemo
     requires below { literal < 2 * trail.old.vars }
     requires few { clause + 1 < 2 ^ 32 }
     requires free { has trail.old.literals literal ≡ false }
-    ensures { IfOk result (λ out. Forces trail.old trail.new literal (clause + 1) out) }
+    ensures { IfOk result (λ out. Forces trail.old trail.new literal clause out) }
 {
     let is_false = trail.is_false(literal);
     if is_false {

@@ -8,7 +8,7 @@ ghost use Rattle.std.specs.Prelude.{◌≡◌, ℕ, ◌+◌, ◌*◌, ◌/◌, �
 ghost use Rattle.unit_propagation.specs.Literals.{opposite, has};
 ghost use Rattle.unit_propagation.specs.Trails.{IsApart};
 ghost use Rattle.unit_propagation.specs.Watching.{back_to};
-ghost use Rattle.unit_propagation.specs.Trails.{Rising};
+ghost use Rattle.unit_propagation.specs.Trails.{Rising, reason_at, reason_of};
 
 use crate::literal::opposite;
 use rh_base::NoMemory;
@@ -150,7 +150,7 @@ impl Trail {
             (self.new ≡ record {
               vars = self.old.vars;
               literals = self.old.literals ++ literal ∷ [];
-              reasons = self.old.reasons ++ number ∷ [];
+              reasons = self.old.reasons ++ reason_of number ∷ [];
               starts = self.old.starts;
               done = self.old.done;
             }) }
@@ -172,7 +172,7 @@ impl Trail {
             (self.new ≡ record {
               vars = self.old.vars;
               literals = self.old.literals ++ literal ∷ [];
-              reasons = self.old.reasons ++ (clause + 1) ∷ [];
+              reasons = self.old.reasons ++ Some clause ∷ [];
               starts = self.old.starts;
               done = self.old.done;
             }) }
@@ -256,10 +256,10 @@ impl Trail {
     /// The clause that gave the literal at a place; none gave a decision.
     #[inline]
     pub fn reason(&self, place: usize) -> Option<u32>
-        requires { place < length self.now.reasons }
-        ensures some { (n : ℕ) → result ≡ Some n → slice_index self.now.reasons place ≡ n + 1 }
+        requires { place < length self.now.literals }
+        ensures some { (n : ℕ) → result ≡ Some n → reason_at self.now place ≡ Some n }
         ensures few { (n : ℕ) → result ≡ Some n → n + 1 < 2 ^ 32 }
-        ensures none { result ≡ None → slice_index self.now.reasons place ≡ 0 }
+        ensures none { result ≡ None → reason_at self.now place ≡ None }
     {
         let number = self.reasons[place];
         if number == 0 {
@@ -283,7 +283,7 @@ impl Trail {
     /// Where the opposite of a literal may stand, if it does so ahead of a place.
     #[inline]
     pub fn place_ahead(&self, literal: u32, end: usize) -> Option<usize>
-        ensures { (p : ℕ) → result ≡ Some p → (p < length self.now.literals) × (p < length self.now.reasons) × (p < end) }
+        ensures { (p : ℕ) → result ≡ Some p → (p < length self.now.literals) × (p < end) }
     {
         let var = (literal / 2) as usize;
         if var >= self.places.len() {
@@ -307,6 +307,7 @@ impl Trail {
     }
 
     /// Goes back to where a level began, of levels that are counted from 0.
+    #[tactic(auto, using(crate::proofs::Marks::reasons_back))]
     pub fn back(&mut self, level: usize)
         requires { level < length self.old.starts }
         ensures { self.new ≡ back_to self.old level }
@@ -329,7 +330,7 @@ impl Trail {
             (self.new ≡ record {
               vars = self.old.vars;
               literals = self.old.literals ++ literal ∷ [];
-              reasons = self.old.reasons ++ 0 ∷ [];
+              reasons = self.old.reasons ++ None ∷ [];
               starts = self.old.starts ++ length self.old.literals ∷ [];
               done = self.old.done;
             }) }

@@ -2,15 +2,4 @@
 #![tactic(auto)]
 
 #[cfg(test)]
-mod answers;
-#[cfg(test)]
-mod class_data;
-#[cfg(test)]
-mod expressions;
-#[cfg(test)]
-#[cfg(test)]
-mod limits;
-#[cfg(test)]
-mod names;
-#[cfg(test)]
-mod types;
+mod tests;

@@ -40,7 +40,7 @@ use Rattle.verdict_report.specs.Told.{AreThreeProofs, IsText, IsSure, IsDifferen
 use Rattle.verdict_report.proofs.TrimmedLaws.{HaveFormulasOf, told_text, none_left, last_left}
 
 -- conflicts that are spent are given
-given_some : (given : Option ℕ) → (budget_of given ≡ 2 ^ 64 - 1 → ⊥) → (c : ℕ) × (given ≡ Some c)
+pub given_some : (given : Option ℕ) → (budget_of given ≡ 2 ^ 64 - 1 → ⊥) → (c : ℕ) × (given ≡ Some c)
 given_some None limited = absurd (limited refl)
 given_some (Some c) limited = (c, refl)
 

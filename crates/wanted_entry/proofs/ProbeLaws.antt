@@ -13,6 +13,7 @@ use Rattle.finite_domain.specs.Shadows.{IsOver, mapped, IsShadow, EndAsShadows}
 use Rattle.finite_domain.proofs.Paths.{spoken_known}
 use Rattle.wanted_entry.specs.declared.wanted.Wanted.{Wanted}
 use Rattle.wanted_entry.specs.Entries.{HasEntry, EndsWithout, or_empty, probe_of}
+use Rattle.fs_semantics.proofs.ConstructLaws.{split_then}
 
 -- what is known of shadows
 abbrev pub HaveShadows : Type 0
@@ -24,11 +25,6 @@ RunAsShadows = (es : List Program) (d : Domain) → IsDomain es d → (m : List 
     → (i : ℕ) → EndAsShadows es d m t s (run (get_or es i Id) t) (run (get_or es i Id) s)
 
 -- ---- a run of the programs, over the domain of these and more
-
--- two steps that end in a tree end in one each
-split : (o : Outcome) (f : Tree → Outcome) (u : Tree) → and_then o f ≡ Some u → (t : Tree) × (o ≡ Some t) × (f t ≡ Some u)
-split None f u h = cc
-split (Some t) f u h = (t, refl, h)
 
 module _ (es more : List Program) (d : Domain) (dom : IsDomain (es ++ more) d) (m : List ℕ → List ℕ) where
   -- the other ends in a tree, too, which is a shadow of this one
@@ -45,7 +41,7 @@ module _ (es more : List Program) (d : Domain) (dom : IsDomain (es ++ more) d) (
   run_too : RunAsShadows → (o : List ℕ) → AllByRecursion (λ k. k < length es) o → (t s u : Tree) → IsShadow (es ++ more) d m t s → outcome es o t ≡ Some u → EndsToo u (outcome es o s)
   run_too runs [] low t s u shadow h = let same : t ≡ u = cc in (s, refl, subst (λ x. IsShadow (es ++ more) d m x s) same shadow)
   run_too runs (i ∷ o) low t s u shadow h =
-      let two = split (run (get_or es i Id) t) (outcome es o) u h in
+      let two = split_then (run (get_or es i Id) t) (outcome es o) u h in
       let here = get_or_append_left es more Id i low.0 in
       let step = subst (λ e. EndAsShadows (es ++ more) d m t s (run e t) (run e s)) here (runs (es ++ more) d dom m t s shadow i) in
       let one = ended t s (run (get_or es i Id) t) (run (get_or es i Id) s) two.0 step two.1 in

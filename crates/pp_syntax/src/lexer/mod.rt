@@ -9,7 +9,7 @@ ghost use Rattle.pp_syntax.specs.Opened.{in_quotes};
 ghost use Rattle.pp_syntax.specs.Tokens.{Lexeme, Spelling};
 ghost use Rattle.pp_syntax.specs.Spelling.{Spells, FailsAt, NumberStands, kind_at, TokenAt};
 ghost use Rattle.pp_syntax.specs.SetApart.{IsSetApart};
-ghost use Rattle.pp_syntax.specs.Lexing.{told, Cut, AreSlices, InOrder, IsTextRefusal, IsLexicalRefusal};
+ghost use Rattle.pp_syntax.specs.Lexing.{lexemes_of, Cut, AreSlices, InOrder, IsTextRefusal, IsLexicalRefusal};
 
 mod bytes;
 mod gaps;
@@ -50,7 +50,7 @@ fn add<'t>(tokens: &mut Vec<Token<'t>>, token: Token<'t>) -> Result<(), NoMemory
 /// The tokens of a text.
 fn tokens_of(alloc: Global, source: &str) -> Result<Vec<Token<'_>>, Fault>
     requires { length source.now < 2 ^ 32 }
-    ensures spelled { IfOk result (λ tokens. Spells source.now (told tokens.items)) }
+    ensures spelled { IfOk result (λ tokens. Spells source.now (lexemes_of tokens.items)) }
     ensures refused { IfErr result (λ e. IfRefused e (IsLexicalRefusal source.now)) }
 {
     let mut tokens = Vec::new(alloc);
@@ -85,13 +85,13 @@ fn tokens_of(alloc: Global, source: &str) -> Result<Vec<Token<'_>>, Fault>
 pub fn lex(alloc: Global, text: &[u8]) -> Result<Vec<Token<'_>>, Fault>
     requires { length text.now < 2 ^ 32 }
     // the tokens that the text spells
-    ensures spelled { IfOk result (λ tokens. Spells text.now (told tokens.items)) }
+    ensures spelled { IfOk result (λ tokens. Spells text.now (lexemes_of tokens.items)) }
     ensures utf8 { OnOk result (IsUtf8 text.now) }
-    ensures slices { IfOk result (λ tokens. AreSlices text.now (told tokens.items)) }
-    ensures order { IfOk result (λ tokens. InOrder 0 (told tokens.items)) }
+    ensures slices { IfOk result (λ tokens. AreSlices text.now (lexemes_of tokens.items)) }
+    ensures order { IfOk result (λ tokens. InOrder 0 (lexemes_of tokens.items)) }
     // Where tokens are spelled the answer is these, unless memory runs out.
     ensures only { (ts : List Lexeme) → IsUtf8 text.now → Spells text.now ts
-        → MatchResult result (λ tokens. told tokens.items ≡ ts) (λ e. IfRefused e (λ r. ⊥)) }
+        → MatchResult result (λ tokens. lexemes_of tokens.items ≡ ts) (λ e. IfRefused e (λ r. ⊥)) }
     // A refusal says that the text isn't UTF-8, or that it is and no tokens are spelled; and where.
     ensures refused { IfErr result (λ e. IfRefused e (λ r. IsTextRefusal text.now r ⊎ (IsUtf8 text.now × IsLexicalRefusal text.now r))) }
 {

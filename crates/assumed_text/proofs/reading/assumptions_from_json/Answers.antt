@@ -2,7 +2,7 @@ use Rattle.std.proofs.Common.{List, subst}
 use Rattle.serde_json.specs.View.{view}
 use Rattle.assumed_text.specs.declared.assumed.Assumption.{Assumption}
 use Rattle.assumed_text.specs.Form.{SaysAssumptions}
-use Rattle.assumed_text.specs.Reading.{IfForm}
+use Rattle.json_parts.specs.Forms.{IfForm}
 use Rattle.assumed_text.proofs.OneText.{refused_with}
 use Rattle.assumed_text.proofs.reading.assumptions_from_json.Goals as goal
 

@@ -4,9 +4,9 @@ use Rattle.fs_semantics.specs.Orders.{up_from}
 use Rattle.fs_lang.specs.Meaning.{program_of}
 use Rattle.commute_prune.specs.Matrix.{IsMatrix}
 use Rattle.commute_prune.specs.Pruned.{Finds}
-use Rattle.commute_prune.proofs.StepLaws.{up_below}
 use Rattle.commute_prune.proofs.PrunedLaws.{up_rises, finds_prunes, lates_reversed}
 use Rattle.commute_prune.proofs.settling.prune.Goals as goal
+use Rattle.fs_semantics.proofs.Ground.{up_below}
 
 pub returns : goal.returns
 returns c =

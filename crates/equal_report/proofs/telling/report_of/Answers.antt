@@ -2,8 +2,8 @@ use Rattle.std.proofs.Common.{length, map, sym, subst, ◌<◌, ◌∙◌}
 use Rattle.std.specs.List.{AllByRecursion}
 use Rattle.fs_lang.specs.Meaning.{program_of}
 use Rattle.equal_report.specs.Lines.{lines_of}
-use Rattle.entry_report.proofs.ToldLaws.{below}
 use Rattle.equal_report.proofs.telling.report_of.Goals as goal
+use Rattle.equal_graphs.proofs.TryLaws.{below}
 
 pub lines_of-requires-clause-left : goal.lines_of-requires-clause-left
 lines_of-requires-clause-left c =

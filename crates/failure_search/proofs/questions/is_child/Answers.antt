@@ -1,5 +1,6 @@
-use Rattle.failure_search.proofs.QuestionLaws.{not_root, is_next, was_next, is_above, on_or_off}
+use Rattle.failure_search.proofs.QuestionLaws.{not_root, is_next, was_next, is_above}
 use Rattle.failure_search.proofs.questions.is_child.Goals as goal
+use Rattle.failure_semantics.proofs.Found.{off}
 
 pub returns-then-above : goal.returns-then-above
 returns-then-above c = (
@@ -10,6 +11,6 @@ returns-then-above c = (
 
 pub returns-else-above : goal.returns-else-above
 returns-else-above c = (
-  (λ h. absurd (on_or_off c.is_ancestor-above.result c.if-above.false h)),
+  (λ h. absurd (off c.is_ancestor-above.result c.if-above.false h)),
   (λ h. c.is_ancestor-above.ensures.1 (is_above c.args.p.now c.args.q.now (not_root c.segments.result.now c.args.q.now c.is_empty.result c.segments.ensures.value c.is_empty.ensures c.if-is_empty.false) h)),
 )

@@ -3,13 +3,14 @@ use Rattle.std.specs.List.{AllByRecursion}
 use Rattle.fs_lang.specs.Meaning.{program_of}
 use Rattle.fs_lang.proofs.SizeLaws.{item_smaller}
 use Rattle.failure_search.proofs.FindLaws.{ok_map}
-use Rattle.failure_search.proofs.StepLaws.{numbers_below, a_step, all_end, below_all, leads, step_fails, rest_run, rest_shorter, rest_smaller, rest_leads_in}
+use Rattle.failure_search.proofs.StepLaws.{a_step, all_end, below_all, leads, step_fails, rest_run, rest_shorter, rest_smaller, rest_leads_in}
 use Rattle.failure_search.proofs.steps.+failing_step.Goals as goal
+use Rattle.fs_semantics.proofs.Ground.{up_below}
 
 pub search-requires : goal.search-requires
 search-requires t c =
     let within : 0 + c.min-n.result ≤ length c.args.steps.now = omega arith in
-    subst (AllByRecursion (λ i. i < length c.args.steps.now)) (sym (c.as_slice.ensures ∙ c.in_ok-order.ensures)) (numbers_below 0 c.min-n.result (length c.args.steps.now) within)
+    subst (AllByRecursion (λ i. i < length c.args.steps.now)) (sym (c.as_slice.ensures ∙ c.in_ok-order.ensures)) (up_below 0 c.min-n.result (length c.args.steps.now) within)
 
 pub bounds-steps-i : goal.bounds-steps-i
 bounds-steps-i t c =

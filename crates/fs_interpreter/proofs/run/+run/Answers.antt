@@ -3,7 +3,7 @@ use Rattle.std.specs.List.{AllByRecursion}
 use Rattle.fs_lang.specs.Meaning.{program_of, test_of, program_of_if}
 use Rattle.fs_lang.specs.Sizes.{program_size}
 use Rattle.fs_interpreter.specs.Places.{has}
-use Rattle.fs_interpreter.specs.Steps.{stepped, written, told}
+use Rattle.fs_interpreter.specs.Steps.{stepped, written, holds_in}
 use Rattle.fs_interpreter.proofs.Frames.{grows_on, state_keeps}
 use Rattle.fs_interpreter.proofs.BranchLaws.{aside_later, read_so, read_at_same, try_same, branch_is, on_ok, becomes_so}
 use Rattle.fs_interpreter.proofs.StepLaws.{leaves_others}
@@ -44,7 +44,7 @@ branch-returns-clause-changes g t c =
     let places = c.in_ok-places.places.items in
     on_ok c.choose.result
     (branch_is m0 m1 m2 m3 (g.B.Bits.meanings c.choose.new.bits) c.args.cells.now c.try_branch.new.cells c.step.new.cells c.choose.new.cells c.in_ok-c.c c.in_ok-made.made places (length c.args.cells.now.present)
-    (told c.args.table.now (test_of c.args.a.now)) (stepped c.args.table.now e) (stepped c.args.table.now f)
+    (holds_in c.args.table.now (test_of c.args.a.now)) (stepped c.args.table.now e) (stepped c.args.table.now f)
     c.holds.ensures.grows c.try_branch.ensures.grows c.step.ensures.grows c.requires.cells c.in_ok-c.ensures.gives c.in_ok-made.ensures.own
     (read_at_same _ _ _ _ c.in_ok-made.made c.deref.ensures.value c.in_ok-made.ensures.read)
     c.in_ok-made.ensures.same c.in_ok-step.ensures.changes
@@ -76,6 +76,6 @@ step-returns-in-If-clause-changes g t c =
     on_ok c.branch-alloc.result
     (becomes_so (g.B.Bits.meanings c.args.bits.now) (g.B.Bits.meanings c.branch-alloc.new.bits) c.args.cells.now c.branch-alloc.new.cells _ _
     (λ v s.
-    (λ i. cond (told c.args.table.now (test_of c.in-If.a) s.cell) (stepped c.args.table.now (program_of (c.get.ensures i)) s) (stepped c.args.table.now (program_of (c.get-in-If.ensures i)) s))
+    (λ i. cond (holds_in c.args.table.now (test_of c.in-If.a) s.cell) (stepped c.args.table.now (program_of (c.get.ensures i)) s) (stepped c.args.table.now (program_of (c.get-in-If.ensures i)) s))
     ∙ sym (ap (λ x. stepped c.args.table.now (program_of x) s) c.in-If.is ∙ ap (λ x. stepped c.args.table.now x s) (program_of_if c.in-If.a c.in-If.e c.in-If.f))))
     c.branch-alloc.ensures.changes

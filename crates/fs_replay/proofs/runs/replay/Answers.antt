@@ -4,8 +4,9 @@ use Rattle.fs_lang.specs.Meaning.{program_of}
 use Rattle.fs_lang.specs.Outcomes.{outcome_of}
 use Rattle.fs_interpreter.specs.Standing.{Stands}
 use Rattle.fs_replay.specs.Told.{plain_state}
-use Rattle.fs_replay.proofs.OutcomeLaws.{parents_of, outcome_parents, told_is}
+use Rattle.fs_replay.proofs.OutcomeLaws.{outcome_parents, told_is}
 use Rattle.fs_replay.proofs.runs.replay.Goals as goal
+use Rattle.fs_semantics.proofs.ConstructLaws.{parents_of}
 
 pub outcome_told-requires-clause-stands : goal.outcome_told-requires-clause-stands
 outcome_told-requires-clause-stands c =

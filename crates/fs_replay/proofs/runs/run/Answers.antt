@@ -4,8 +4,9 @@ use Rattle.fs_lang.specs.Meaning.{program_of}
 use Rattle.fs_lang.specs.Outcomes.{outcome_of}
 use Rattle.fs_replay.specs.Told.{plain_state}
 use Rattle.fs_replay.proofs.StandLaws.{tree_later}
-use Rattle.fs_replay.proofs.OutcomeLaws.{parents_of, run_parents, told_is}
+use Rattle.fs_replay.proofs.OutcomeLaws.{run_parents, told_is}
 use Rattle.fs_replay.proofs.runs.run.Goals as goal
+use Rattle.fs_semantics.proofs.ConstructLaws.{parents_of}
 
 pub cells_of-requires : goal.cells_of-requires
 cells_of-requires c = tree_later c.in_ok-table.table c.cover.new.table c.args.tree.now c.cover.ensures.keeps c.in_ok-table.ensures

@@ -1,6 +1,7 @@
 use Rattle.std.proofs.Common.{◌<◌, length, get_or}
-use Rattle.fs_replay.proofs.OutcomeLaws.{covers_at, all_at}
+use Rattle.fs_replay.proofs.OutcomeLaws.{covers_at}
 use Rattle.fs_replay.proofs.runs.run_in_order.Goals as goal
+use Rattle.fs_interpreter.proofs.AsideLaws.{all_at}
 
 pub run_plain-requires-clause-covers : goal.run_plain-requires-clause-covers
 run_plain-requires-clause-covers c =

@@ -2,7 +2,7 @@ use Rattle.std.proofs.Common.{subst}
 use Rattle.serde_json.specs.View.{view}
 use Rattle.given_text.specs.declared.given.Given.{Given}
 use Rattle.given_text.specs.Form.{IsGivenBy}
-use Rattle.given_text.specs.Reading.{IfForm}
+use Rattle.json_parts.specs.Forms.{IfForm}
 use Rattle.given_text.proofs.OneGiven.{refused_with}
 use Rattle.given_text.proofs.reading.given_from_json.Goals as goal
 

@@ -10,13 +10,13 @@ use Rattle.given_verdict.proofs.again.ask_again_from.Goals as goal
 
 pub ask_second-requires-clause-deterministic : goal.ask_second-requires-clause-deterministic
 ask_second-requires-clause-deterministic c =
-    let es = map program_of c.args.plan.now.programs.now in
-    let order = c.args.plan.now.order.now in
-    let sure = subst (λ g. IsDeterministicFrom g es (Told (comes order))) (none_there c.args.given.now (sym c.is_empty.ensures ∙ c.if-is_empty.true)) c.requires.deterministic in
+    let es = map program_of c.args.asked.now.plan.now.programs.now in
+    let order = c.args.asked.now.plan.now.order.now in
+    let sure = subst (λ g. IsDeterministicFrom g es (Told (comes order))) (none_there c.args.asked.now.given.now (sym c.is_empty.ensures ∙ c.if-is_empty.true)) c.requires.deterministic in
     (c.none_given.ensures.deterministic es (comes order)).0 sure
 
 pub returns-then-is_empty : goal.returns-then-is_empty
 returns-then-is_empty c = IfOk-weaker c.ask_second.result _ _ (λ answered is.
-    let es = map program_of c.args.plan.now.programs.now in
-    let order = c.args.plan.now.order.now in
-    subst (λ g. AnswersAgainFrom g es order c.args.budget answered) (sym (none_there c.args.given.now (sym c.is_empty.ensures ∙ c.if-is_empty.true))) (again es order c.args.budget answered is)) c.ask_second.ensures
+    let es = map program_of c.args.asked.now.plan.now.programs.now in
+    let order = c.args.asked.now.plan.now.order.now in
+    subst (λ g. AnswersAgainFrom g es order c.args.asked.now.budget answered) (sym (none_there c.args.asked.now.given.now (sym c.is_empty.ensures ∙ c.if-is_empty.true))) (again es order c.args.asked.now.budget answered is)) c.ask_second.ensures

@@ -12,29 +12,29 @@ use Rattle.given_verdict.proofs.again.same_from_groups.Goals as goal
 
 pub same_in_groups-requires-clause-deterministic : goal.same_in_groups-requires-clause-deterministic
 same_in_groups-requires-clause-deterministic c =
-    let es = map program_of c.args.plan.now.programs.now in
-    let order = c.args.plan.now.order.now in
-    let long : length es ≡ order.count = length-map c.args.plan.now.programs.now program_of ∙ c.args.plan.now.count in
+    let es = map program_of c.args.asked.now.plan.now.programs.now in
+    let order = c.args.asked.now.plan.now.order.now in
+    let long : length es ≡ order.count = length-map c.args.asked.now.plan.now.programs.now program_of ∙ c.args.asked.now.plan.now.count in
     let goes = subst (λ n. GoesFirst n (comes order) (guard_before order.count (comes order))) (sym long) (c.guards.ensures.goes order.count (comes order)) in
     subst₂ (λ fs before. IsDeterministic fs (Told before)) (sym (ap (map program_of) c.as_slice.ensures ∙ c.in_ok-graph.ensures.programs)) (sym c.in_ok-graph.ensures.order)
-    ((c.guarded_graphs.ensures.deterministic c.args.given.now es (comes order) (guard_before order.count (comes order)) goes).1 c.requires.deterministic)
+    ((c.guarded_graphs.ensures.deterministic c.args.asked.now.given.now es (comes order) (guard_before order.count (comes order)) goes).1 c.requires.deterministic)
 
 pub groups_from-requires-clause-first : goal.groups_from-requires-clause-first
 groups_from-requires-clause-first c =
-    let es = map program_of c.args.plan.now.programs.now in
-    let order = c.args.plan.now.order.now in
-    let long : length es ≡ order.count = length-map c.args.plan.now.programs.now program_of ∙ c.args.plan.now.count in
+    let es = map program_of c.args.asked.now.plan.now.programs.now in
+    let order = c.args.asked.now.plan.now.order.now in
+    let long : length es ≡ order.count = length-map c.args.asked.now.plan.now.programs.now program_of ∙ c.args.asked.now.plan.now.count in
     let goes = subst (λ n. GoesFirst n (comes order) (guard_before order.count (comes order))) (sym long) (c.guards.ensures.goes order.count (comes order)) in
     (comes order, subst (GoesFirst (length es) (comes order)) (sym c.in_ok-graph.ensures.order) goes)
 
 pub returns : goal.returns
 returns c =
-    let es = map program_of c.args.plan.now.programs.now in
-    let given = c.args.given.now in
-    let order = c.args.plan.now.order.now in
+    let es = map program_of c.args.asked.now.plan.now.programs.now in
+    let given = c.args.asked.now.given.now in
+    let order = c.args.asked.now.plan.now.order.now in
     let fs = map program_of c.as_slice.result.now in
     let graph = c.in_ok-graph.graph.order in
-    let long : length es ≡ order.count = length-map c.args.plan.now.programs.now program_of ∙ c.args.plan.now.count in
+    let long : length es ≡ order.count = length-map c.args.asked.now.plan.now.programs.now program_of ∙ c.args.asked.now.plan.now.count in
     let goes = subst (λ n. GoesFirst n (comes order) (guard_before order.count (comes order))) (sym long) (c.guards.ensures.goes order.count (comes order)) in
     both_of_some (λ v. IsIdempotent fs (Told (comes graph))) (λ v. IsSecondProof fs graph v.formula) (λ v. IsSettledFrom given es order v.formula)
     (λ v same proof.

@@ -7,6 +7,6 @@ use Rattle.given_verdict.proofs.first.first_from.Goals as goal
 
 pub returns-then-is_empty : goal.returns-then-is_empty
 returns-then-is_empty c = IfOk-weaker c.judge_order.result _ _ (λ answered is.
-    let es = map program_of c.args.plan.now.programs.now in
-    let order = c.args.plan.now.order.now in
-    subst (λ g. IsJudgedFrom g es order c.args.budget answered) (sym (none_there c.args.given.now (sym c.is_empty.ensures ∙ c.if-is_empty.true))) (judged es order c.args.budget answered is)) c.judge_order.ensures
+    let es = map program_of c.args.asked.now.plan.now.programs.now in
+    let order = c.args.asked.now.plan.now.order.now in
+    subst (λ g. IsJudgedFrom g es order c.args.asked.now.budget answered) (sym (none_there c.args.asked.now.given.now (sym c.is_empty.ensures ∙ c.if-is_empty.true))) (judged es order c.args.asked.now.budget answered is)) c.judge_order.ensures

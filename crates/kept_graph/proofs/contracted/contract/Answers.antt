@@ -4,9 +4,9 @@ use Rattle.std.proofs.lemmas.List.{length-map}
 use Rattle.fs_semantics.specs.Orders.{Told, up_from}
 use Rattle.fs_lang.specs.Meaning.{program_of}
 use Rattle.orders.specs.Relation.{comes}
-use Rattle.commute_prune.proofs.StepLaws.{up_below}
 use Rattle.kept_graph.proofs.ContractedLaws.{firsts_below, lasts_below}
 use Rattle.kept_graph.proofs.contracted.contract.Goals as goal
+use Rattle.fs_semantics.proofs.Ground.{up_below}
 
 pub contracted_programs-requires-clause-first : goal.contracted_programs-requires-clause-first
 contracted_programs-requires-clause-first c =

@@ -7,8 +7,8 @@ use Rattle.sym_run.specs.Wires.{circuit_meanings}
 use Rattle.sym_run.proofs.CircuitLaws.{circuit_grows}
 use Rattle.order_circuit.specs.Codes.{node}
 use Rattle.order_circuit.proofs.FollowLaws.{ready_is}
-use Rattle.order_circuit.proofs.RunLaws.{if_ok}
 use Rattle.order_circuit.proofs.allowed.may_come.Goals as goal
+use Rattle.fs_interpreter.proofs.HasLaws.{if_ok}
 
 pub returns-in_err-below-clause-grows : goal.returns-in_err-below-clause-grows
 returns-in_err-below-clause-grows c =

@@ -3,8 +3,8 @@ use Rattle.std.specs.Prelude.{◌&&◌, not}
 use Rattle.fs_interpreter.specs.States.{truth}
 use Rattle.fs_interpreter.proofs.Frames.{grows_on}
 use Rattle.sym_run.specs.Wires.{circuit_meanings}
-use Rattle.order_circuit.proofs.RunLaws.{if_ok}
 use Rattle.order_circuit.proofs.allowed.may_stand.Goals as goal
+use Rattle.fs_interpreter.proofs.HasLaws.{if_ok}
 
 pub returns-in_err-fresh-clause-grows : goal.returns-in_err-fresh-clause-grows
 returns-in_err-fresh-clause-grows c = grows_on (circuit_meanings c.args.sym.now) (circuit_meanings c.all_taken.new.sym) (circuit_meanings c.not.new.self) c.all_taken.ensures.grows c.not.ensures.grows

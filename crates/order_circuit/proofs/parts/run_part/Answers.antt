@@ -9,8 +9,9 @@ use Rattle.fs_interpreter.specs.Standing.{StandsFor}
 use Rattle.fs_interpreter.proofs.Frames.{grows_on, cells_stay, state_keeps}
 use Rattle.sym_run.specs.Wires.{circuit_meanings}
 use Rattle.order_circuit.specs.Codes.{node, nodes, kept_from}
-use Rattle.order_circuit.proofs.PartLaws.{part_is, none_past, if_ok}
+use Rattle.order_circuit.proofs.PartLaws.{part_is, none_past}
 use Rattle.order_circuit.proofs.parts.run_part.Goals as goal
+use Rattle.fs_interpreter.proofs.HasLaws.{if_ok}
 
 pub run_in_order-requires-clause-cells : goal.run_in_order-requires-clause-cells
 run_in_order-requires-clause-cells c = cells_stay (circuit_meanings c.args.sym.now) (circuit_meanings c.kept_codes.new.sym) c.args.start.now c.kept_codes.ensures.grows c.requires.cells

@@ -35,8 +35,8 @@ pose-requires-clause-readable c = λ v h.
     let small : order.count ≤ 2 ^ 32 = omega (arith, c.count-nodes.ensures.count) in
     order_readable c.allowed_orders.ensures.exact (map program_of c.args.programs.now) order d s1 c.asked_order.new.sym inputs v c.count-nodes.ensures.ordered small is asks.grows ((asks.exact v).0 h)
 
-pub returns-clause-exact : goal.returns-clause-exact
-returns-clause-exact c = IfOk-weaker c.pose.result _ _ (λ q states.
+pub returns : goal.returns
+returns c =
     let order = c.args.order.now in
     let d = c.args.domain.now in
     let asks = c.in_ok-inputs.ensures.asks in
@@ -44,17 +44,11 @@ returns-clause-exact c = IfOk-weaker c.pose.result _ _ (λ q states.
     let inputs = c.in_ok-inputs.inputs in
     let is = asks.asking in
     let same = length-map c.args.programs.now program_of ∙ c.requires.nodes in
-    order_exact c.allowed_orders.ensures.exact c.allowed_orders.ensures.long c.exchanges.ensures.found c.exchanges.ensures.placed c.neighbours.ensures.exchange (map program_of c.args.programs.now) order d s1 c.asked_order.new.sym inputs c.in_ok-inputs.asked.wire q.formula c.count-nodes.ensures.ordered same is asks.exact states) c.pose.ensures.states
-
-pub returns-clause-models : goal.returns-clause-models
-returns-clause-models c = if_ok_both _ _ _ c.pose.result (λ q states holds w told.
-    let order = c.args.order.now in
-    let d = c.args.domain.now in
-    let asks = c.in_ok-inputs.ensures.asks in
-    let s1 = asks.before in
-    let inputs = c.in_ok-inputs.inputs in
-    let is = asks.asking in
-    let same = length-map c.args.programs.now program_of ∙ c.requires.nodes in
-    let u = told.0 in
-    let seen = subst (λ (x : Asked (List Gate)). Shows x (inputs_in u) w) holds told.2 in
-    order_models c.states.ensures.outcome c.allowed_orders.ensures.exact c.exchanges.ensures.found (map program_of c.args.programs.now) order d s1 c.asked_order.new.sym inputs c.in_ok-inputs.asked.wire q.formula c.count-nodes.ensures.ordered same is asks.grows asks.exact states u told.1 w seen) c.pose.ensures.states c.pose.ensures.holds
+    record {
+      exact = IfOk-weaker c.pose.result _ _ (λ q states.
+          order_exact c.allowed_orders.ensures.exact c.allowed_orders.ensures.long c.exchanges.ensures.found c.exchanges.ensures.placed c.neighbours.ensures.exchange (map program_of c.args.programs.now) order d s1 c.asked_order.new.sym inputs c.in_ok-inputs.asked.wire q.formula c.count-nodes.ensures.ordered same is asks.exact states) c.pose.ensures.states;
+      models = if_ok_both _ _ _ c.pose.result (λ q states holds w told.
+          let u = told.0 in
+          let seen = subst (λ (x : Asked (List Gate)). Shows x (inputs_in u) w) holds told.2 in
+          order_models c.states.ensures.outcome c.allowed_orders.ensures.exact c.exchanges.ensures.found (map program_of c.args.programs.now) order d s1 c.asked_order.new.sym inputs c.in_ok-inputs.asked.wire q.formula c.count-nodes.ensures.ordered same is asks.grows asks.exact states u told.1 w seen) c.pose.ensures.states c.pose.ensures.holds;
+    }

@@ -7,9 +7,10 @@ use Rattle.finite_domain.specs.Layouts.{stem, numbered}
 use Rattle.path_domain.specs.Gathered.{Gathered, members, nothing}
 use Rattle.path_domain.specs.Laid.{places_from, layout_of}
 use Rattle.path_domain.proofs.UseLaws.{table_paths, contents_are}
-use Rattle.path_domain.proofs.DomainLaws.{other_is_segment, parts_of, have_parents, is_layout}
+use Rattle.path_domain.proofs.DomainLaws.{parts_of, have_parents, is_layout}
 use Rattle.path_domain.proofs.CoverLaws.{all_covered}
 use Rattle.path_domain.proofs.making.domain.Goals as goal
+use Rattle.finite_domain.proofs.Laid.{other_is_segment}
 
 pub children-requires : goal.children-requires
 children-requires c = subst IsSegment (sym c.in_ok-name.ensures.1) (other_is_segment c.in_ok-name.ensures.0)

@@ -2,7 +2,7 @@ use Rattle.std.proofs.Common.{◌≡◌, ◌+◌, ◌*◌, drop}
 use Rattle.fs_lang.specs.Meaning.{program_of, programs_in}
 use Rattle.fs_lang.specs.Sizes.{program_size, programs_size}
 use Rattle.finite_domain.specs.Matters.{matters_of_steps}
-use Rattle.path_domain.specs.Gathered.{told, gather}
+use Rattle.path_domain.specs.Gathered.{gathered_of, gather}
 use Rattle.path_domain.proofs.walk.+walked.Given as goal
 
 abbrev pub decreases-walk : goal.decreases-walk
@@ -16,4 +16,4 @@ decreases-walk_choice l = 2 * program_size (program_of l.e.now) + 2 * program_si
 
 -- what was found so far with what the others mention
 abbrev pub invariant-walk_all-loop-program : goal.invariant-walk_all-loop-program
-invariant-walk_all-loop-program l = gather (matters_of_steps (programs_in (drop l.program-index l.programs))) (told l.found) ≡ gather (matters_of_steps (programs_in l.programs)) (told l.fn.found)
+invariant-walk_all-loop-program l = gather (matters_of_steps (programs_in (drop l.program-index l.programs))) (gathered_of l.found) ≡ gather (matters_of_steps (programs_in l.programs)) (gathered_of l.fn.found)

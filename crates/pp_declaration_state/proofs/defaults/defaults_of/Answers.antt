@@ -1,8 +1,9 @@
 use Rattle.std.proofs.Common.{◌+◌, ap, sym, ◌∙◌, drop}
 use Rattle.pp_value.specs.Keys.{with_pairs}
 use Rattle.catalog_semantics.specs.States.{defaults_of}
-use Rattle.pp_declaration_state.proofs.DefaultLaws.{next_default, drop_step}
+use Rattle.pp_declaration_state.proofs.DefaultLaws.{next_default}
 use Rattle.pp_declaration_state.proofs.defaults.defaults_of.Goals as goal
+use Rattle.rh_base.proofs.Lists.{drop_step}
 
 pub loop-d-preserved : goal.loop-d-preserved
 loop-d-preserved c =

@@ -1,8 +1,9 @@
 use Rattle.std.proofs.Common.{◌+◌, drop, ap, sym, ◌∙◌}
 use Rattle.catalog_semantics.specs.Declaring.{resource_declared, bodies_declared}
 use Rattle.pp_declared_bodies.specs.Bodies.{declared_behind, ref_to}
-use Rattle.pp_declared_bodies.proofs.BodyLaws.{next_body, drop_step}
+use Rattle.pp_declared_bodies.proofs.BodyLaws.{next_body}
 use Rattle.pp_declared_bodies.proofs.declaring.declare_bodies.Goals as goal
+use Rattle.rh_base.proofs.Lists.{drop_step}
 
 pub loop-b-preserved : goal.loop-b-preserved
 loop-b-preserved c =

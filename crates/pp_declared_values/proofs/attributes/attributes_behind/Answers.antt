@@ -1,6 +1,7 @@
 use Rattle.std.proofs.Common.{◌+◌, drop}
-use Rattle.pp_declared_values.proofs.Naming.{refuses_all, drop_step}
+use Rattle.pp_declared_values.proofs.Naming.{refuses_all}
 use Rattle.pp_declared_values.proofs.attributes.attributes_behind.Goals as goal
+use Rattle.rh_base.proofs.Lists.{drop_step}
 
 pub returns-in-Err : goal.returns-in-Err
 returns-in-Err c =

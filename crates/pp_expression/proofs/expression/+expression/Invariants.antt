@@ -1,6 +1,6 @@
 use Rattle.std.proofs.Common.{◌≡◌, ◌+◌, ◌-◌, ◌*◌, drop}
 use Rattle.std.specs.Prelude.{codes}
-use Rattle.pp_syntax.specs.Lexing.{told}
+use Rattle.pp_syntax.specs.Lexing.{lexemes_of}
 use Rattle.pp_readers.specs.Expressions.{operations, levels_with, items, pair_with, choice_with, suffixes, members, expr_at, with_front, with_members}
 use Rattle.pp_expression.proofs.expression.+expression.Given as goal
 
@@ -103,19 +103,19 @@ decreases-operations l = 64 * l.depth + 2 * l.n + 12
 
 -- what was read so far, and what reading the rest gives in the turns that are left
 abbrev pub invariant-operations-loop-turn : goal.invariant-operations-loop-turn
-invariant-operations-loop-turn l = with_front l.found (operations (6 - l.n) (levels_with (expr_at l.depth) l.n) (l.turns - l._turn) (drop l.rest (told l.tokens))) ≡ operations (6 - l.n) (levels_with (expr_at l.depth) l.n) l.turns (drop l.from (told l.tokens))
+invariant-operations-loop-turn l = with_front l.found (operations (6 - l.n) (levels_with (expr_at l.depth) l.n) (l.turns - l._turn) (drop l.rest (lexemes_of l.tokens))) ≡ operations (6 - l.n) (levels_with (expr_at l.depth) l.n) l.turns (drop l.from (lexemes_of l.tokens))
 
 abbrev pub invariant-suffixes-loop-turn : goal.invariant-suffixes-loop-turn
-invariant-suffixes-loop-turn l = suffixes (expr_at l.depth) l.at (l.turns - l._turn) l.base (drop l.rest (told l.tokens)) ≡ suffixes (expr_at l.depth) l.at l.turns l.fn.operand (drop l.from (told l.tokens))
+invariant-suffixes-loop-turn l = suffixes (expr_at l.depth) l.at (l.turns - l._turn) l.base (drop l.rest (lexemes_of l.tokens)) ≡ suffixes (expr_at l.depth) l.at l.turns l.fn.operand (drop l.from (lexemes_of l.tokens))
 
 abbrev pub invariant-some_choices-loop-turn : goal.invariant-some_choices-loop-turn
-invariant-some_choices-loop-turn l = with_front l.found (items (codes "}") (choice_with (expr_at l.depth)) (l.turns - l._turn) (drop l.rest (told l.tokens))) ≡ items (codes "}") (choice_with (expr_at l.depth)) l.turns (drop l.from (told l.tokens))
+invariant-some_choices-loop-turn l = with_front l.found (items (codes "}") (choice_with (expr_at l.depth)) (l.turns - l._turn) (drop l.rest (lexemes_of l.tokens))) ≡ items (codes "}") (choice_with (expr_at l.depth)) l.turns (drop l.from (lexemes_of l.tokens))
 
 abbrev pub invariant-exprs-loop-turn : goal.invariant-exprs-loop-turn
-invariant-exprs-loop-turn l = with_front l.found (items l.close (expr_at l.depth) (l.turns - l._turn) (drop l.rest (told l.tokens))) ≡ items l.close (expr_at l.depth) l.turns (drop l.from (told l.tokens))
+invariant-exprs-loop-turn l = with_front l.found (items l.close (expr_at l.depth) (l.turns - l._turn) (drop l.rest (lexemes_of l.tokens))) ≡ items l.close (expr_at l.depth) l.turns (drop l.from (lexemes_of l.tokens))
 
 abbrev pub invariant-pairs-loop-turn : goal.invariant-pairs-loop-turn
-invariant-pairs-loop-turn l = with_front l.found (items (codes "}") (pair_with (expr_at l.depth)) (l.turns - l._turn) (drop l.rest (told l.tokens))) ≡ items (codes "}") (pair_with (expr_at l.depth)) l.turns (drop l.from (told l.tokens))
+invariant-pairs-loop-turn l = with_front l.found (items (codes "}") (pair_with (expr_at l.depth)) (l.turns - l._turn) (drop l.rest (lexemes_of l.tokens))) ≡ items (codes "}") (pair_with (expr_at l.depth)) l.turns (drop l.from (lexemes_of l.tokens))
 
 abbrev pub invariant-members-loop-turn : goal.invariant-members-loop-turn
-invariant-members-loop-turn l = with_members l.found l.part (members (expr_at l.depth) (l.turns - l._turn) (drop l.rest (told l.tokens))) ≡ members (expr_at l.depth) l.turns (drop l.from (told l.tokens))
+invariant-members-loop-turn l = with_members l.found l.part (members (expr_at l.depth) (l.turns - l._turn) (drop l.rest (lexemes_of l.tokens))) ≡ members (expr_at l.depth) l.turns (drop l.from (lexemes_of l.tokens))

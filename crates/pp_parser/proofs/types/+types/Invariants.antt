@@ -1,8 +1,8 @@
 use Rattle.std.proofs.Common.{◌≡◌, ◌+◌, ◌-◌, ◌*◌, drop}
 use Rattle.std.specs.Prelude.{codes}
-use Rattle.pp_syntax.specs.Lexing.{told}
+use Rattle.pp_syntax.specs.Lexing.{lexemes_of}
 use Rattle.pp_readers.specs.Expressions.{with_front, items}
-use Rattle.pp_parser.specs.TypeReading.{type_at}
+use Rattle.pp_parser.specs.TypeReading.{members_in, type_at}
 use Rattle.pp_parser.proofs.types.+types.Given as goal
 
 -- A type is read at the depth that is left for the types in its brackets; a rule calls those below it in this order.
@@ -32,4 +32,5 @@ decreases-any_type l = 8 * l.depth + 4
 
 -- what was read so far, and what reading the rest gives in the turns that are left
 abbrev pub invariant-types-loop-turn : goal.invariant-types-loop-turn
-invariant-types-loop-turn l = with_front l.found (items (codes "]") (type_at l.depth) (l.turns - l._turn) (drop l.rest (told l.tokens))) ≡ items (codes "]") (type_at l.depth) l.turns (drop l.from (told l.tokens))
+invariant-types-loop-turn l = with_front l.found (items (codes "]") (type_at l.depth) (l._turn-end - l._turn) (drop l.rest (lexemes_of l.parser.tokens.now)))
+    ≡ members_in (type_at l.depth) (drop l.from (lexemes_of l.parser.tokens.now))

@@ -1,9 +1,11 @@
 use Rattle.std.proofs.Common.{◌≡◌, ◌-◌, drop}
 use Rattle.std.specs.Prelude.{codes}
-use Rattle.pp_syntax.specs.Lexing.{told}
+use Rattle.pp_syntax.specs.Lexing.{lexemes_of}
 use Rattle.pp_readers.specs.Expressions.{with_front, items, expr_at}
+use Rattle.pp_readers.specs.Statements.{bracketed_with}
 use Rattle.pp_statement.proofs.chain.bracketed.Given as goal
 
 -- what was read so far, and what reading the rest gives in the turns that are left
 abbrev pub invariant-loop-turn : goal.invariant-loop-turn
-invariant-loop-turn l = with_front l.found (items (codes ")") (expr_at l.limit) (l.turns - l._turn) (drop l.rest (told l.tokens))) ≡ items (codes ")") (expr_at l.limit) l.turns (drop l.from (told l.tokens))
+invariant-loop-turn l = with_front l.found (items (codes ")") (expr_at l.parser.limit) (l._turn-end - l._turn) (drop l.rest (lexemes_of l.parser.tokens.now)))
+    ≡ bracketed_with (expr_at l.parser.limit) (drop l.from (lexemes_of l.parser.tokens.now))

@@ -1,5 +1,5 @@
-use Rattle.std.proofs.Common.{◌≡◌, ◌-◌, [], ◌∷◌, drop}
-use Rattle.pp_syntax.specs.Lexing.{told}
+use Rattle.std.proofs.Common.{◌≡◌, ◌-◌, [], ◌∷◌, drop, ◌+◌, length}
+use Rattle.pp_syntax.specs.Lexing.{lexemes_of}
 use Rattle.pp_readers.specs.Expressions.{expr_at}
 use Rattle.pp_readers.specs.Combining.{many}
 use Rattle.pp_readers.specs.Names.{begins_arrow}
@@ -8,4 +8,5 @@ use Rattle.pp_statement.proofs.chain.sides_behind.Given as goal
 
 -- what was read so far, and what reading the rest gives in the turns that are left
 abbrev pub invariant-loop-turn : goal.invariant-loop-turn
-invariant-loop-turn l = with_links l.sides l.arrows (many begins_arrow (link_with (expr_at l.limit)) (l.turns - l._turn) (drop l.rest (told l.tokens))) ≡ with_links (l.fn.first ∷ []) [] (many begins_arrow (link_with (expr_at l.limit)) l.turns (drop l.from (told l.tokens)))
+invariant-loop-turn l = with_links l.sides l.arrows (many begins_arrow (link_with (expr_at l.parser.limit)) (l._turn-end - l._turn) (drop l.rest (lexemes_of l.parser.tokens.now)))
+    ≡ with_links (l.fn.first ∷ []) [] (many begins_arrow (link_with (expr_at l.parser.limit)) (length (drop l.from (lexemes_of l.parser.tokens.now)) + 1) (drop l.from (lexemes_of l.parser.tokens.now)))

@@ -1,6 +1,6 @@
 use Rattle.std.proofs.Common.{◌+◌, ◌-◌, Some, sym, ap, ◌∙◌, drop}
 use Rattle.std.specs.Prelude.{codes}
-use Rattle.pp_syntax.specs.Lexing.{told}
+use Rattle.pp_syntax.specs.Lexing.{lexemes_of}
 use Rattle.pp_readers.specs.Expressions.{with_front, expr_at}
 use Rattle.pp_readers.specs.Combining.{listed}
 use Rattle.pp_readers.specs.Statements.{unclosed, body_with}
@@ -9,22 +9,22 @@ use Rattle.pp_statement.proofs.resource.some_bodies.Goals as goal
 
 pub loop-turn-preserved : goal.loop-turn-preserved
 loop-turn-preserved c =
-    let ts = told c.args.tokens.now in
-    ap (λ xs. with_front xs (listed (codes ";") unclosed (body_with (expr_at c.args.limit)) (c.args.turns - (c.loop-turn._turn + 1)) (drop c.in-Some.behind ts))) c.in_ok-push.ensures.ok
-    ∙ sym (listed_goes_on (codes ";") unclosed (body_with (expr_at c.args.limit)) c.loop-turn.found c.args.turns c.loop-turn._turn c.in-Some.field-0-0 (drop c.loop-turn.rest ts) (drop c.in_ok-item.more ts) (drop c.in-Some.behind ts) c.in_ok-item.item
-    c.loop-turn-test.true (sym c.unclosed.ensures ∙ c.if-unclosed.true) c.in_ok-item.ensures (sym c.in-Some.ensures))
+    let ts = lexemes_of c.args.parser.now.tokens.now in
+    ap (λ xs. with_front xs (listed (codes ";") unclosed (body_with (expr_at c.args.parser.now.limit)) (c.turns-turn-end.result - (c.loop-turn._turn + 1)) (drop c.in-Some.behind ts))) c.in_ok-push.ensures.ok
+    ∙ sym (listed_goes_on (codes ";") unclosed (body_with (expr_at c.args.parser.now.limit)) c.loop-turn.found c.turns-turn-end.result c.loop-turn._turn c.in-Some.field-0-0 (drop c.loop-turn.rest ts) (drop c.in_ok-item.more ts) (drop c.in-Some.behind ts) c.in_ok-item.item
+    c.loop-turn-test.true (sym c.unclosed.ensures ∙ c.if-not-unclosed.false) c.in_ok-item.ensures (sym c.in-Some.ensures))
     ∙ c.loop-turn.invariant
 
 pub returns-in_default : goal.returns-in_default
 returns-in_default c =
-    let ts = told c.args.tokens.now in
+    let ts = lexemes_of c.args.parser.now.tokens.now in
     sym c.loop-turn.invariant
-    ∙ listed_last (codes ";") unclosed (body_with (expr_at c.args.limit)) c.loop-turn.found c.args.turns c.loop-turn._turn (drop c.loop-turn.rest ts) (drop c.in_ok-item.more ts) c.in_ok-item.item
-    c.loop-turn-test.true (sym c.unclosed.ensures ∙ c.if-unclosed.true) c.in_ok-item.ensures (sym c.in_default.ensures)
+    ∙ listed_last (codes ";") unclosed (body_with (expr_at c.args.parser.now.limit)) c.loop-turn.found c.turns-turn-end.result c.loop-turn._turn (drop c.loop-turn.rest ts) (drop c.in_ok-item.more ts) c.in_ok-item.item
+    c.loop-turn-test.true (sym c.unclosed.ensures ∙ c.if-not-unclosed.false) c.in_ok-item.ensures (sym c.in_default.ensures)
     ∙ ap (λ xs. Some (xs, drop c.in_ok-item.more ts)) (sym c.in_ok-push.ensures.ok)
 
-pub returns-else-unclosed : goal.returns-else-unclosed
-returns-else-unclosed c =
-    let ts = told c.args.tokens.now in
+pub returns-then-not-unclosed : goal.returns-then-not-unclosed
+returns-then-not-unclosed c =
+    let ts = lexemes_of c.args.parser.now.tokens.now in
     sym c.loop-turn.invariant
-    ∙ listed_ends (codes ";") unclosed (body_with (expr_at c.args.limit)) c.loop-turn.found c.args.turns c.loop-turn._turn (drop c.loop-turn.rest ts) c.loop-turn-test.true (sym c.unclosed.ensures ∙ c.if-unclosed.false)
+    ∙ listed_ends (codes ";") unclosed (body_with (expr_at c.args.parser.now.limit)) c.loop-turn.found c.turns-turn-end.result c.loop-turn._turn (drop c.loop-turn.rest ts) c.loop-turn-test.true (sym c.unclosed.ensures ∙ c.if-not-unclosed.true)

@@ -1,5 +1,5 @@
-use Rattle.std.proofs.Common.{◌≡◌, ◌+◌, ◌-◌, ◌*◌, [], ◌∷◌, drop}
-use Rattle.pp_syntax.specs.Lexing.{told}
+use Rattle.std.proofs.Common.{◌≡◌, ◌+◌, ◌-◌, ◌*◌, [], ◌∷◌, drop, length}
+use Rattle.pp_syntax.specs.Lexing.{lexemes_of}
 use Rattle.pp_readers.specs.Expressions.{with_front, expr_at, postfix_with}
 use Rattle.pp_readers.specs.Statements.{ands_with, ors_with, search_at}
 use Rattle.pp_statement.proofs.search.+search.Given as goal
@@ -34,7 +34,9 @@ decreases-disjunction l = 16 * l.depth + 8
 
 -- what was read so far, and what reading the rest gives in the turns that are left
 abbrev pub invariant-ands-loop-turn : goal.invariant-ands-loop-turn
-invariant-ands-loop-turn l = with_front l.found (ands_with (postfix_with (expr_at l.limit)) (search_at (postfix_with (expr_at l.limit)) l.depth) (l.turns - l._turn) (drop l.rest (told l.tokens))) ≡ with_front (l.fn.first ∷ []) (ands_with (postfix_with (expr_at l.limit)) (search_at (postfix_with (expr_at l.limit)) l.depth) l.turns (drop l.from (told l.tokens)))
+invariant-ands-loop-turn l = with_front l.found (ands_with (postfix_with (expr_at l.parser.limit)) (search_at (postfix_with (expr_at l.parser.limit)) l.depth) (l._turn-end - l._turn) (drop l.rest (lexemes_of l.parser.tokens.now)))
+    ≡ with_front (l.fn.first ∷ []) (ands_with (postfix_with (expr_at l.parser.limit)) (search_at (postfix_with (expr_at l.parser.limit)) l.depth) (length (drop l.from (lexemes_of l.parser.tokens.now)) + 1) (drop l.from (lexemes_of l.parser.tokens.now)))
 
 abbrev pub invariant-ors-loop-turn : goal.invariant-ors-loop-turn
-invariant-ors-loop-turn l = with_front l.found (ors_with (postfix_with (expr_at l.limit)) (search_at (postfix_with (expr_at l.limit)) l.depth) (l.turns - l._turn) (drop l.rest (told l.tokens))) ≡ with_front (l.fn.first ∷ []) (ors_with (postfix_with (expr_at l.limit)) (search_at (postfix_with (expr_at l.limit)) l.depth) l.turns (drop l.from (told l.tokens)))
+invariant-ors-loop-turn l = with_front l.found (ors_with (postfix_with (expr_at l.parser.limit)) (search_at (postfix_with (expr_at l.parser.limit)) l.depth) (l._turn-end - l._turn) (drop l.rest (lexemes_of l.parser.tokens.now)))
+    ≡ with_front (l.fn.first ∷ []) (ors_with (postfix_with (expr_at l.parser.limit)) (search_at (postfix_with (expr_at l.parser.limit)) l.depth) (length (drop l.from (lexemes_of l.parser.tokens.now)) + 1) (drop l.from (lexemes_of l.parser.tokens.now)))

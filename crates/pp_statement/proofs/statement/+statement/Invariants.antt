@@ -1,8 +1,8 @@
-use Rattle.std.proofs.Common.{◌≡◌, ◌+◌, ◌-◌, ◌*◌, [], ◌∷◌, drop}
-use Rattle.pp_syntax.specs.Lexing.{told}
+use Rattle.std.proofs.Common.{◌≡◌, ◌+◌, ◌-◌, ◌*◌, [], ◌∷◌, drop, length}
+use Rattle.pp_syntax.specs.Lexing.{lexemes_of}
 use Rattle.pp_readers.specs.Expressions.{with_front, expr_at}
 use Rattle.pp_readers.specs.Combining.{many}
-use Rattle.pp_readers.specs.Statements.{unclosed, case_arm_with, more_arms, stmt_at}
+use Rattle.pp_readers.specs.Statements.{unclosed, statements_in, case_arm_with, case_arms_in, more_arms, stmt_at}
 use Rattle.pp_statement.proofs.statement.+statement.Given as goal
 
 -- A statement is read at the depth that is left for the statements of its blocks; a rule calls those below it in this order.
@@ -56,10 +56,13 @@ decreases-any_statement l = 16 * l.depth + 9
 
 -- what was read so far, and what reading the rest gives in the turns that are left
 abbrev pub invariant-statements-loop-turn : goal.invariant-statements-loop-turn
-invariant-statements-loop-turn l = with_front l.found (many unclosed (stmt_at (expr_at l.limit) l.depth) (l.turns - l._turn) (drop l.rest (told l.tokens))) ≡ many unclosed (stmt_at (expr_at l.limit) l.depth) l.turns (drop l.from (told l.tokens))
+invariant-statements-loop-turn l = with_front l.found (many unclosed (stmt_at (expr_at l.parser.limit) l.depth) (l._turn-end - l._turn) (drop l.rest (lexemes_of l.parser.tokens.now)))
+    ≡ statements_in (stmt_at (expr_at l.parser.limit) l.depth) (drop l.from (lexemes_of l.parser.tokens.now))
 
 abbrev pub invariant-case_arms-loop-turn : goal.invariant-case_arms-loop-turn
-invariant-case_arms-loop-turn l = with_front l.found (many unclosed (case_arm_with (expr_at l.limit) (stmt_at (expr_at l.limit) l.depth)) (l.turns - l._turn) (drop l.rest (told l.tokens))) ≡ many unclosed (case_arm_with (expr_at l.limit) (stmt_at (expr_at l.limit) l.depth)) l.turns (drop l.from (told l.tokens))
+invariant-case_arms-loop-turn l = with_front l.found (many unclosed (case_arm_with (expr_at l.parser.limit) (stmt_at (expr_at l.parser.limit) l.depth)) (l._turn-end - l._turn) (drop l.rest (lexemes_of l.parser.tokens.now)))
+    ≡ case_arms_in (expr_at l.parser.limit) (stmt_at (expr_at l.parser.limit) l.depth) (drop l.from (lexemes_of l.parser.tokens.now))
 
 abbrev pub invariant-arms_behind-loop-turn : goal.invariant-arms_behind-loop-turn
-invariant-arms_behind-loop-turn l = with_front l.found (more_arms (expr_at l.limit) (stmt_at (expr_at l.limit) l.depth) (l.turns - l._turn) (drop l.rest (told l.tokens))) ≡ with_front (l.fn.first ∷ []) (more_arms (expr_at l.limit) (stmt_at (expr_at l.limit) l.depth) l.turns (drop l.from (told l.tokens)))
+invariant-arms_behind-loop-turn l = with_front l.found (more_arms (expr_at l.parser.limit) (stmt_at (expr_at l.parser.limit) l.depth) (l._turn-end - l._turn) (drop l.rest (lexemes_of l.parser.tokens.now)))
+    ≡ with_front (l.fn.first ∷ []) (more_arms (expr_at l.parser.limit) (stmt_at (expr_at l.parser.limit) l.depth) (length (drop l.from (lexemes_of l.parser.tokens.now)) + 1) (drop l.from (lexemes_of l.parser.tokens.now)))

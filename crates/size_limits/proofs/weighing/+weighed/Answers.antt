@@ -5,8 +5,9 @@ use Rattle.fs_lang.specs.Meaning.{test_of, program_of, programs_in, program_of_i
 use Rattle.fs_lang.specs.Sizes.{program_size}
 use Rattle.fs_lang.proofs.SizeLaws.{item_smaller, if_size}
 use Rattle.size_limits.specs.Weights.{work, steps_work, capped, count_in}
-use Rattle.size_limits.proofs.WeightLaws.{program_next, one_weighed, is_capped, at_end}
+use Rattle.size_limits.proofs.WeightLaws.{one_weighed, is_capped, at_end}
 use Rattle.size_limits.proofs.weighing.+weighed.Goals as goal
+use Rattle.path_domain.proofs.GatherLaws.{program_next}
 
 pub weigh-weigh_choice-requires : goal.weigh-weigh_choice-requires
 weigh-weigh_choice-requires t c =

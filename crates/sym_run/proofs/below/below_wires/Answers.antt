@@ -1,9 +1,10 @@
 use Rattle.std.proofs.Common.{nat_lt, ap, ◌∙◌}
 use Rattle.bool_circuit.specs.Gates.{wire_value}
 use Rattle.sym_run.specs.Wires.{number}
-use Rattle.sym_run.proofs.CircuitLaws.{if_ok, number_stays}
+use Rattle.sym_run.proofs.CircuitLaws.{number_stays}
 use Rattle.sym_run.proofs.NumberLaws.{less_none}
 use Rattle.sym_run.proofs.below.below_wires.Goals as goal
+use Rattle.fs_interpreter.proofs.HasLaws.{if_ok}
 
 pub returns-clause-value : goal.returns-clause-value
 returns-clause-value c = if_ok _ _ c.less_with.result (λ w is v.

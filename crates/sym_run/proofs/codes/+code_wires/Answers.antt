@@ -1,8 +1,9 @@
 use Rattle.std.proofs.Common.{◌+◌, ◌*◌, ap, ◌∙◌}
 use Rattle.bool_circuit.specs.Gates.{wire_value}
 use Rattle.sym_run.specs.Wires.{number, bit_number}
-use Rattle.sym_run.proofs.CircuitLaws.{if_ok, number_snoc, number_stays, halves}
+use Rattle.sym_run.proofs.CircuitLaws.{number_snoc, number_stays, halves}
 use Rattle.sym_run.proofs.codes.+code_wires.Goals as goal
+use Rattle.fs_interpreter.proofs.HasLaws.{if_ok}
 
 pub returns-in_ok-last-clause-value : goal.returns-in_ok-last-clause-value
 returns-in_ok-last-clause-value t c = if_ok _ _ c.with_last.result (λ ws is inputs.

@@ -1,8 +1,9 @@
 use Rattle.std.proofs.Common.{◌+◌, ◌*◌, cond, sym, ap, ◌∙◌}
 use Rattle.bool_circuit.specs.Gates.{wire_value}
 use Rattle.sym_run.specs.Wires.{number, bit_number}
-use Rattle.sym_run.proofs.CircuitLaws.{if_ok, number_snoc, number_stays, chosen}
+use Rattle.sym_run.proofs.CircuitLaws.{number_snoc, number_stays, chosen}
 use Rattle.sym_run.proofs.codes.+pick_with.Goals as goal
+use Rattle.fs_interpreter.proofs.HasLaws.{if_ok}
 
 pub returns-clause-value : goal.returns-clause-value
 returns-clause-value t c = if_ok _ _ c.with_last.result (λ ws is inputs.

@@ -1,6 +1,7 @@
 use Rattle.std.proofs.Common.{◌==◌, ◌∙◌}
-use Rattle.sym_run.proofs.CircuitLaws.{if_ok, number_stays}
+use Rattle.sym_run.proofs.CircuitLaws.{number_stays}
 use Rattle.sym_run.proofs.codes.same_wires.Goals as goal
+use Rattle.fs_interpreter.proofs.HasLaws.{if_ok}
 
 pub returns-clause-value : goal.returns-clause-value
 returns-clause-value c = if_ok _ _ c.same_with.result (λ w is inputs.

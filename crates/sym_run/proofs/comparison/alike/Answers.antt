@@ -2,9 +2,9 @@ use Rattle.std.proofs.Common.{sym, ap, ◌∙◌}
 use Rattle.fs_interpreter.specs.States.{state_of}
 use Rattle.sym_run.specs.Alike.{same_state}
 use Rattle.sym_run.specs.Wires.{circuit_meanings}
-use Rattle.sym_run.proofs.CircuitLaws.{if_ok}
 use Rattle.sym_run.proofs.AlikeLaws.{alike_exactly}
 use Rattle.sym_run.proofs.comparison.alike.Goals as goal
+use Rattle.fs_interpreter.proofs.HasLaws.{if_ok}
 
 pub returns-clause-exact : goal.returns-clause-exact
 returns-clause-exact c = if_ok _ _ c.same_state.result (λ w is v o u so su.

@@ -5,7 +5,7 @@ use Rattle.std.proofs.lemmas.Map.Iter.{rest_more, rest_so_far, iter_end}
 use Rattle.serde_json.specs.View.{members_view}
 use Rattle.fs_semantics.specs.FileTree.{Tree, IsTree}
 use Rattle.tree_text.specs.TreeText.{AreMembers, IsWithinLimits}
-use Rattle.tree_text.specs.Reading.{IfForm}
+use Rattle.json_parts.specs.Forms.{IfForm}
 use Rattle.tree_text.proofs.ReadLaws.{told_of, read_nothing, read_more, unread, passed_on}
 use Rattle.tree_text.proofs.reading.tree_in.Goals as goal
 

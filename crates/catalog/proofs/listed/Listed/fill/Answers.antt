@@ -6,7 +6,7 @@ use Rattle.pp_value.specs.Values.{Pair}
 use Rattle.catalog_semantics.specs.declared.catalog.Resource.{Resource}
 use Rattle.catalog_semantics.specs.States.{attributes_limit, size_of_attributes, lacks}
 use Rattle.catalog.specs.Places.{IsListed}
-use Rattle.catalog.specs.Adding.{given, changed_at}
+use Rattle.catalog.specs.Adding.{with_attributes, changed_at}
 use Rattle.catalog.proofs.SizeLaws.{sum_is, sum_over, listed_filled, size_filled, changed_same, there}
 use Rattle.catalog.proofs.Listing.{refused_with, filled_large, filled_fits}
 use Rattle.catalog.proofs.listed.Listed.fill.Goals as goal
@@ -41,11 +41,11 @@ module _ (c : goal.After-self-1) where
   at = there c.args.self.now c.args.place c.index-r.result.now (c.index-r.ensures ∙ ap (λ (rs : List Resource). get_or rs c.args.place c.index-r.result.now) c.self.view_is) c.requires
 
   -- the one at the place has its defaults now
-  changed : c.set_attributes.new.resources.items ≡ changed_at c.args.place (given c.args.pairs.now) c.args.self.now
+  changed : c.set_attributes.new.resources.items ≡ changed_at c.args.place (with_attributes c.args.pairs.now) c.args.self.now
   changed =
       c.set_attributes.ensures
       ∙ (ap (changed_at c.args.place (λ r. record r { attrs = c.in_ok-attributes.attributes })) c.self.view_is
-      ∙ changed_same c.args.place (λ r. record r { attrs = c.in_ok-attributes.attributes }) (given c.args.pairs.now) c.args.self.now c.index-r.result.now at
+      ∙ changed_same c.args.place (λ r. record r { attrs = c.in_ok-attributes.attributes }) (with_attributes c.args.pairs.now) c.args.self.now c.index-r.result.now at
       (ap (λ (more : List Pair). record c.index-r.result.now { attrs = more }) c.in_ok-attributes.ensures))
 
   -- what stood beside the list was right

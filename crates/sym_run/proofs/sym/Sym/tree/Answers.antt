@@ -2,9 +2,9 @@ use Rattle.std.proofs.Common.{◌≡◌, length, sym, subst}
 use Rattle.bool_circuit.specs.Gates.{truth_at, wire_values}
 use Rattle.fs_interpreter.specs.States.{State}
 use Rattle.fs_interpreter.specs.Standing.{Stands}
-use Rattle.sym_run.proofs.CircuitLaws.{if_ok}
 use Rattle.sym_run.proofs.ReadLaws.{told_as, told_cells}
 use Rattle.sym_run.proofs.sym.Sym.tree.Goals as goal
+use Rattle.fs_interpreter.proofs.HasLaws.{if_ok}
 
 pub tree_by-requires-clause-cells : goal.tree_by-requires-clause-cells
 tree_by-requires-clause-cells c =

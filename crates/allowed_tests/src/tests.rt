@@ -1,0 +1,4 @@
+//! The tables, by what they are of.
+
+mod allowed;
+mod texts;

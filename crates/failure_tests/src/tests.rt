@@ -1,0 +1,6 @@
+//! The tables, by what they are of.
+
+mod differences;
+mod failures;
+mod places;
+mod smaller;

@@ -1,0 +1,5 @@
+//! The tables, by what they are of.
+
+mod answers;
+mod found;
+mod listings;

@@ -1,0 +1,29 @@
+//! The tables, by what they are of.
+
+mod asked;
+mod assumed;
+mod check;
+mod class_data;
+mod common;
+mod compiled;
+mod compiled_equal;
+mod compiled_refusals;
+mod compiled_sizes;
+mod differences;
+mod entries;
+mod equal;
+mod explained;
+mod faults;
+mod given;
+mod hostile;
+mod hosts;
+mod made_up;
+mod mending;
+mod migrate;
+mod proofs;
+mod repairs;
+mod run_again;
+mod sizes;
+mod verify;
+mod words;
+mod workloads;

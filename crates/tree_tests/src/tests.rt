@@ -1,0 +1,6 @@
+//! The tables, by what they are of.
+
+mod answers;
+mod paths;
+mod resources;
+mod runs;
